@@ -1,9 +1,9 @@
 -- The two laws that join spelling and reading: what is spelled so is read, and what is read is spelled so.
-use Rattle.std.proofs.Common.{◌≡◌, ℕ, zero, suc, ◌+◌, ◌-◌, ◌*◌, ◌<◌, ◌≤◌, ◌^◌, List, [], ◌∷◌, ◌++◌, length, get_or, drop, ℤ, FitsSigned, Option, Some, Result, Ok, Err, refl, sym, ap, subst, ◌∙◌, ◌↔◌, arith, length-append}
+use Rattle.std.proofs.Common.{◌≡◌, ℕ, zero, suc, ◌+◌, ◌-◌, ◌<◌, ◌≤◌, ◌^◌, List, [], ◌∷◌, ◌++◌, length, get_or, drop, ℤ, FitsSigned, Result, Ok, Err, refl, sym, ap, subst, ◌∙◌, ◌↔◌, arith, length-append}
 use Rattle.std.specs.List.{flat_map, AllByRecursion}
 use Rattle.std.specs.Int.{w32, to_be_bytes, cast_unsigned, cast_signed}
 use Rattle.std.proofs.lemmas.Bool.{cond-true}
-use Rattle.std.proofs.lemmas.Int.{of_z-to_z, to_z-of_z, SFits-int_wrap}
+use Rattle.std.proofs.lemmas.Int.{of_z-to_z, to_z-of_z}
 use Rattle.std.proofs.lemmas.List.{length-drop}
 use Rattle.std.proofs.Math.Facts.{sfits_to_z}
 use Rattle.std.proofs.Math.Seq.{drop-append_seam}
@@ -11,7 +11,7 @@ use Rattle.ic_header.specs.declared.header.Header.{Header}
 use Rattle.ic_header.specs.declared.flags.Flags.{Flags}
 use Rattle.ic_header.specs.declared.fault.HeaderFault.{HeaderFault}
 use Rattle.ic_header.specs.Spelling.{AllowsBody, Heads, IsInRange, flags_word, words_of, written}
-use Rattle.ic_header.specs.Reading.{content_at, flags_of, header_at, len_fits, read_header, word_at}
+use Rattle.ic_header.specs.Reading.{content_at, flags_of, header_at, read_header, word_at}
 use Rattle.ic_header.proofs.FlagWords.{flags_of-flags_word}
 use Rattle.ic_header.proofs.Words.{IsBytes, length-words, word_at-below, word_at-words, words_from, words_from-spelled}
 use Rattle.ic_header.proofs.Judging.{IsFine, Misfits, Reads, Shorts, Sums, Unknown, len_fits-from, reads_kind, verdict}

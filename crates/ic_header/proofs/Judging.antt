@@ -1,5 +1,5 @@
 -- Reading gives a fault exactly where it is the first.
-use Rattle.std.proofs.Common.{◌≡◌, ◌≢◌, ℕ, ◌-◌, ◌<◌, ◌≤◌, List, length, drop, Bool, true, false, cond, nat_lt, ◌==◌, ◌&&◌, eq-eqb, Option, Some, None, Result, Ok, Err, refl, sym, ap, ◌∙◌, ◌↔◌, arith, inl, inr}
+use Rattle.std.proofs.Common.{◌≡◌, ℕ, ◌-◌, ◌≤◌, List, length, drop, true, false, cond, ◌==◌, eq-eqb, Option, Some, None, Result, Ok, Err, refl, sym, ap, ◌∙◌, ◌↔◌, inl, inr}
 use Rattle.std.proofs.lemmas.Bool.{cases_Bool, cases_lt, lt-ltb, le-ltb, eqb-true, eqb-false, and_parts, and_from, both_ways, cond-true, cond-false, false_from_ne_true, ne_eqb}
 use Rattle.ic_header.specs.declared.header.Header.{Header}
 use Rattle.ic_header.specs.declared.flags.Flags.{Flags}

@@ -1,4 +1,4 @@
-use Rattle.std.proofs.Common.{◌≡◌, ◌*◌, ◌++◌, sym, take, take_all, arith, ◌∙◌, ap, subst, length, List, ℕ, Ok}
+use Rattle.std.proofs.Common.{◌≡◌, ◌*◌, ◌++◌, sym, take, take_all, arith, ◌∙◌, ap, subst, List, ℕ, Ok}
 use Rattle.std.specs.List.{flat_map}
 use Rattle.std.specs.Int.{w32, to_be_bytes}
 use Rattle.ic_header.specs.Spelling.{Heads, written, words_of}
