@@ -13,6 +13,8 @@ mod run;
 mod sim;
 mod slip;
 mod tally;
+#[cfg(test)]
+mod tests;
 
 pub use history::{Entry, Histories, History, HubAsk, HubReply, Parcel};
 pub use rows::{Parts, Row, Rows};
