@@ -1,4 +1,8 @@
 // One row.
+ghost use Rattle.std.specs.Prelude.{◌≡◌, MatchOption, false};
+ghost use Rattle.ic_row.specs.Values.{is_null};
+ghost use Rattle.ic_row.specs.declared.value.Value.TheVariants.{Null};
+
 use crate::value::Value;
 use std::alloc::{AllocError, Global};
 use std::marker::Model;
@@ -18,8 +22,20 @@ impl Model for Row {
     ghost view = { λ r. r.values.items };
 }
 
+fn present_value(value: &Value) -> Option<&Value>
+    ensures { MatchOption result (value.now ≡ Null) (λ v. (v.now ≡ value.now) × (is_null v.now ≡ false)) }
+{
+    match value {
+        Value::Null => None,
+        _ => Some(value),
+    }
+}
+
 impl Row {
     ghost use Rattle.std.specs.Prelude.{◌≡◌, ◌↔◌, length, IfOk, IsTrue};
+    ghost use Rattle.std.specs.Prelude.{MatchOption, false};
+    ghost use Rattle.ic_row.specs.Values.{column, is_null};
+    ghost use Rattle.ic_row.specs.declared.value.Value.TheVariants.{Null};
 
     /// Takes no memory.
     pub fn from_vec(values: Vec<Value>) -> Row
@@ -51,6 +67,16 @@ impl Row {
         ensures { IsTrue result ↔ (length self.now ≡ 0) }
     {
         self.values.is_empty()
+    }
+
+    /// The value of a column by its position from 0, and `None` where that is null or past the last.
+    pub fn present(&self, place: u32) -> Option<&Value>
+        ensures { MatchOption result (column self.now place ≡ Null) (λ v. (v.now ≡ column self.now place) × (is_null v.now ≡ false)) }
+    {
+        match self.values.get(place as usize) {
+            Some(value) => present_value(value),
+            None => None,
+        }
     }
 
     /// The same row again, in memory of its own.
