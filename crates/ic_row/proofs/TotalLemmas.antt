@@ -1,11 +1,13 @@
 -- The order is total, whatever the keys.
-use Rattle.std.proofs.Common.{◌≡◌, ℕ, Bool, true, false, ℤ, pos, List, [], ◌∷◌, refl, subst, ◌∙◌}
+use Rattle.std.proofs.Common.{sym, ◌≡◌, ℕ, Bool, true, false, ℤ, pos, List, [], ◌∷◌, refl, subst, ◌∙◌, ap}
 use Rattle.std.specs.declared.cmp.Ordering.{Ordering}
 use Rattle.std.specs.declared.cmp.Ordering.TheVariants.{Less, Equal, Greater}
 use Rattle.std.specs.Ordering.{nat_cmp, int_cmp, ordering_then, is_le, is_gt, on, then_cmp, flip_args}
 use Rattle.std.specs.Cmp.{IsTotalOrder}
 use Rattle.std.specs.Cmp.Lexicographic.{slice_cmp}
 use Rattle.std.proofs.lemmas.Cmp.{upto, tied_itself, nat_cmp_total, int_cmp_total, on_total, then_total, back_total, nat_list_cmp_total}
+use Rattle.std.specs.Prelude.{◌↔◌}
+use Rattle.std.proofs.lemmas.Map.Lookups.{exact_bytes, exact_signed}
 use Rattle.ic_row.specs.declared.value.Value.{Value}
 use Rattle.ic_row.specs.declared.value.Value.TheVariants.{Null, Int, Wide, Chars}
 use Rattle.ic_row.specs.declared.order.Key.{Key}
@@ -64,6 +66,28 @@ along R S same total = subst IsTotalOrder (λ i x y. same x y i) total
 
 pub value_cmp_total : IsTotalOrder value_cmp
 value_cmp_total = along composed value_cmp composed_is composed_total
+
+-- only the same values are equal
+pub value_cmp_same : (a b : Value) → value_cmp a b ≡ Equal → a ≡ b
+value_cmp_same Null Null e = refl
+value_cmp_same Null (Int m) e = absurd cc
+value_cmp_same Null (Wide m) e = absurd cc
+value_cmp_same Null (Chars t) e = absurd cc
+value_cmp_same (Int n) Null e = absurd cc
+value_cmp_same (Int n) (Int m) e = ap Int (exact_signed n m e)
+value_cmp_same (Int n) (Wide m) e = absurd cc
+value_cmp_same (Int n) (Chars t) e = absurd cc
+value_cmp_same (Wide n) Null e = absurd cc
+value_cmp_same (Wide n) (Int m) e = absurd cc
+value_cmp_same (Wide n) (Wide m) e = ap Wide (exact_signed n m e)
+value_cmp_same (Wide n) (Chars t) e = absurd cc
+value_cmp_same (Chars s) Null e = absurd cc
+value_cmp_same (Chars s) (Int m) e = absurd cc
+value_cmp_same (Chars s) (Wide m) e = absurd cc
+value_cmp_same (Chars s) (Chars t) e = ap Chars (exact_bytes s t e)
+
+pub value_cmp_equal : (a b : Value) → (value_cmp a b ≡ Equal) ↔ (a ≡ b)
+value_cmp_equal a b = (value_cmp_same a b, λ same. ap (value_cmp a) (sym same) ∙ tied_itself value_cmp_total a)
 
 -- ---- columns: with and without a value, and then by the values
 

@@ -26,3 +26,6 @@ pub use row::Row;
 pub use rows::Rows;
 pub use value::{Kind, Value};
 pub use writing::spell;
+
+#[cfg(test)]
+mod tests;

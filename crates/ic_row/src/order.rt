@@ -1,5 +1,5 @@
 // The order of rows by keys.
-ghost use Rattle.std.specs.Prelude.{◌≡◌, Bool, true, false};
+ghost use Rattle.std.specs.Prelude.{◌≡◌, ◌↔◌};
 ghost use Rattle.ic_row.specs.Values.{column};
 ghost use Rattle.ic_row.specs.Order.{rank_of, value_cmp, directed, column_cmp, key_cmp, compare_by};
 
@@ -25,9 +25,7 @@ fn rank(value: &Value) -> u8
     }
 }
 
-/// The order of two values: numbers by size, texts by bytes, null last. Values of two kinds, which no column holds, are
-/// ordered too: ints, wides, texts.
-pub fn compare_values(a: &Value, b: &Value) -> Ordering
+fn order_of(a: &Value, b: &Value) -> Ordering
     ensures { result ≡ value_cmp a.now b.now }
 {
     match (a, b) {
@@ -36,6 +34,16 @@ pub fn compare_values(a: &Value, b: &Value) -> Ordering
         (Value::Chars(a), Value::Chars(b)) => a.as_str().as_bytes().cmp(b.as_str().as_bytes()),
         _ => rank(a).cmp(&rank(b)),
     }
+}
+
+/// The order of two values: numbers by size, texts by bytes, null last. Values of two kinds, which no column holds, are
+/// ordered too: ints, wides, texts. Takes no memory.
+pub fn compare_values(a: &Value, b: &Value) -> Ordering
+    ensures value { result ≡ value_cmp a.now b.now }
+    // Equal with the same kind and content alone.
+    ensures same { (result ≡ Ordering.Equal) ↔ (a.now ≡ b.now) }
+{
+    order_of(a, b)
 }
 
 fn in_direction(down: bool, order: Ordering) -> Ordering
@@ -49,7 +57,7 @@ fn compare_by_key(key: &Key, a: &Row, b: &Row) -> Ordering
     ensures { result ≡ key_cmp key.now a.now b.now }
 {
     match (a.present(key.column), b.present(key.column)) {
-        (Some(a), Some(b)) => in_direction(key.down, compare_values(a, b)),
+        (Some(a), Some(b)) => in_direction(key.down, order_of(a, b)),
         (Some(_), None) => Ordering::Less,
         (None, Some(_)) => Ordering::Greater,
         (None, None) => Ordering::Equal,

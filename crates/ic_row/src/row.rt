@@ -1,8 +1,4 @@
 // One row.
-ghost use Rattle.std.specs.Prelude.{◌≡◌, MatchOption, false};
-ghost use Rattle.ic_row.specs.Values.{is_null};
-ghost use Rattle.ic_row.specs.declared.value.Value.TheVariants.{Null};
-
 use crate::value::Value;
 use std::alloc::{AllocError, Global};
 use std::marker::Model;
@@ -22,20 +18,9 @@ impl Model for Row {
     ghost view = { λ r. r.values.items };
 }
 
-fn present_value(value: &Value) -> Option<&Value>
-    ensures { MatchOption result (value.now ≡ Null) (λ v. (v.now ≡ value.now) × (is_null v.now ≡ false)) }
-{
-    match value {
-        Value::Null => None,
-        _ => Some(value),
-    }
-}
-
 impl Row {
     ghost use Rattle.std.specs.Prelude.{◌≡◌, ◌↔◌, length, IfOk, IsTrue};
-    ghost use Rattle.std.specs.Prelude.{MatchOption, false};
-    ghost use Rattle.ic_row.specs.Values.{column, is_null};
-    ghost use Rattle.ic_row.specs.declared.value.Value.TheVariants.{Null};
+    ghost use Rattle.ic_row.specs.Values.{column, Presents};
 
     /// Takes no memory.
     pub fn from_vec(values: Vec<Value>) -> Row
@@ -71,10 +56,10 @@ impl Row {
 
     /// The value of a column by its position from 0, and `None` where that is null or past the last.
     pub fn present(&self, place: u32) -> Option<&Value>
-        ensures { MatchOption result (column self.now place ≡ Null) (λ v. (v.now ≡ column self.now place) × (is_null v.now ≡ false)) }
+        ensures { Presents result (column self.now place) }
     {
         match self.values.get(place as usize) {
-            Some(value) => present_value(value),
+            Some(value) => value.present(),
             None => None,
         }
     }

@@ -1,6 +1,6 @@
 // A row as bytes.
 ghost use Rattle.std.specs.Prelude.{◌≡◌, ◌∷◌, ◌++◌, ◌<◌, ◌^◌, length, IfOk, OnOk};
-ghost use Rattle.ic_row.specs.Spelling.{HasLengths, fits_length, int_spelling, text_spelling, wide_spelling, value_spelling, spelling_of, IsValue, Spells};
+ghost use Rattle.ic_row.specs.Spelling.{HasLengths, FitsLength, int_spelling, text_spelling, wide_spelling, value_spelling, spelling_of, IsValue, Spells};
 ghost use Rattle.std.specs.Int.{w64, w128};
 ghost use Rattle.std.specs.Int.RustNames.{FitsSigned};
 
@@ -9,7 +9,7 @@ use crate::value::Value;
 use ic_base::Bytes;
 use std::alloc::{AllocError, Global};
 
-/// Bytes of a value that isn't a text: its tag and at most 16 bytes; the room asked for at first is for ints.
+/// The room asked for at first is for ints alone: a tag and eight bytes each.
 const INT_BYTES: usize = 9;
 
 fn put_tagged(out: &mut Vec<u8>, tag: u8, bytes: &[u8]) -> Result<(), AllocError>
@@ -45,7 +45,7 @@ fn put_text(out: &mut Vec<u8>, text: &[u8]) -> Result<(), AllocError>
 }
 
 fn put_value(out: &mut Vec<u8>, value: &Value) -> Result<(), AllocError>
-    requires { fits_length value.now }
+    requires { FitsLength value.now }
     ensures ok { OnOk result (out.new.items ≡ out.old.items ++ value_spelling value.now) }
     ensures is { IsValue value.now }
 {
