@@ -6,7 +6,8 @@ use Rattle.std.specs.Int.{w16, to_be_bytes}
 use Rattle.std.proofs.lemmas.Bool.{eqb-true}
 use Rattle.std.proofs.lemmas.List.{append-nil, nil_from_length}
 use Rattle.ic_row.specs.declared.value.Value.{Value}
-use Rattle.ic_row.specs.Spelling.{value_spelling, spelling_of, IsValue, IsRow, Spells}
+use Rattle.ic_row.specs.declared.value.Value.TheVariants.{Null, Int, Wide, Chars}
+use Rattle.ic_row.specs.Spelling.{value_spelling, spelling_of, IsValue, IsRow, Spells, FitsLength, HasLengths}
 use Rattle.ic_row.specs.Reading.{◌>>=◌, number_at, value_at, values_at, row_at, placed, read_row_of}
 use Rattle.ic_row.proofs.Fields.{IsBytes, Takes, Takes-then, wide16, number_takes, number_again}
 use Rattle.ic_row.proofs.ValueLemmas.{value_takes, value_again}
@@ -29,6 +30,17 @@ some_from_ok (Some y) left x e = ap Some (ok_is y x e)
 guard_ended : {A : Type 0} (b : Bool) (d : ℕ) (x y : A) → cond b (Ok x) (Err d) ≡ Ok y → (b ≡ true) × (x ≡ y)
 guard_ended true d x y e = (refl, ok_is x y e)
 guard_ended false d x y e = absurd cc
+
+-- what is a row can be spelled
+texts_fit : (vs : List Value) → AllByRecursion IsValue vs → AllByRecursion FitsLength vs
+texts_fit [] each = tt
+texts_fit (Null ∷ vs) each = (tt, texts_fit vs each.1)
+texts_fit (Int n ∷ vs) each = (tt, texts_fit vs each.1)
+texts_fit (Wide n ∷ vs) each = (tt, texts_fit vs each.1)
+texts_fit (Chars text ∷ vs) each = (each.0.0, texts_fit vs each.1)
+
+pub has_lengths : (row : List Value) → IsRow row → HasLengths row
+has_lengths row is = record { count = is.count; texts = texts_fit row is.values }
 
 -- ---- several values
 

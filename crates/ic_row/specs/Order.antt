@@ -35,6 +35,7 @@ column_cmp down Null b = Greater
 column_cmp down a Null = Less
 column_cmp down a b = directed down (value_cmp a b)
 
+-- rows by the values of the key's column
 abbrev pub key_cmp : Key → List Value → List Value → Ordering
 key_cmp key a b = column_cmp key.down (column a key.column) (column b key.column)
 

@@ -13,12 +13,14 @@ use Rattle.ic_row.specs.declared.reading.RowNo.TheVariants.{RowFault, Memory}
 abbrev pub number_at : Width → List ℕ → Option (ℕ × List ℕ)
 number_at w bytes = if nat_lt (length bytes) (byte_len w) then None else Some (from_be_bytes w (take (byte_len w) bytes), drop (byte_len w) bytes)
 
+-- a number as an int or as a wide, in two's complement
 abbrev pub int_from : ℕ × List ℕ → Value × List ℕ
 int_from n = (Int (cast_signed w64 n.0), n.1)
 
 abbrev pub wide_from : ℕ × List ℕ → Value × List ℕ
 wide_from n = (Wide (cast_signed w128 n.0), n.1)
 
+-- an int behind its tag, a wide behind its tag
 unfoldable pub int_at : List ℕ → Option (Value × List ℕ)
 int_at bytes = option_map int_from (number_at w64 bytes)
 
@@ -32,6 +34,7 @@ text_from (Some n) =
     if nat_lt (length n.1) n.0 then None else
     (if is_utf8 (take n.0 n.1) then Some (Chars (take n.0 n.1), drop n.0 n.1) else None)
 
+-- a text behind its tag
 unfoldable pub text_at : List ℕ → Option (Value × List ℕ)
 text_at bytes = text_from (number_at w32 bytes)
 
@@ -48,6 +51,7 @@ unfoldable pub value_at : List ℕ → Option (Value × List ℕ)
 value_at [] = None
 value_at (tag ∷ bytes) = value_behind tag bytes
 
+-- one step, and then the next, unless it stopped
 infixl 10 ◌>>=◌
 abbrev pub ◌>>=◌ : {A B : Type 0} → Result A ℕ → (A → Result B ℕ) → Result B ℕ
 (Ok x) >>= f = f x

@@ -10,6 +10,7 @@ use Rattle.ic_row.specs.declared.value.Kind.TheVariants as kinds
 abbrev pub Datum : Type 0
 Datum = Value
 
+-- a null is no value
 abbrev pub is_null : Value → Bool
 is_null Null = true
 is_null _ = false

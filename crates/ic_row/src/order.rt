@@ -7,7 +7,7 @@ use crate::row::Row;
 use crate::value::Value;
 use std::cmp::Ordering;
 
-/// A column by its position from 0, and whether it goes from the greatest down.
+/// A sort key: a column by its position from 0, and whether it goes from the greatest down. SQL's `desc`.
 #[derive(Clone, Copy, Debug, PartialEq, Eq)]
 pub struct Key {
     pub column: u32,

@@ -143,7 +143,8 @@ fn placed(alloc: Global, bytes: &[u8]) -> Result<Row, RowNo>
     }
 }
 
-/// The row that the whole slice spells. Texts are copied once, as slices; the bytes aren't kept.
+/// The row that the whole slice spells. Texts are copied once, as slices; the bytes aren't kept. Room for values is
+/// taken as they come, and not for a count that nothing stands behind.
 pub fn read_row(alloc: Global, bytes: &[u8]) -> Result<Row, RowNo>
     // What is read is spelled so.
     ensures ok { IfOk result (λ row. Spells row bytes.now) }
