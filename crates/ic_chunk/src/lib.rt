@@ -1,0 +1,15 @@
+//! Rows cut into tuple chunks, and payloads of chunks joined to rows again. No packet header, no connection and no
+//! clock.
+//!
+//! A sender drives a [`Splitter`] for each row: `next` appends one chunk to a buffer, until it says that none is left.
+//! A receiver keeps one [`Joiner`] for each sender, and feeds it the payloads in the order of their packets: `feed`
+//! gives the rows that are whole now.
+//!
+//! Below: `ic_row`, `ic_base`. Above: `ic_law`, `ic_motion`, `pl_mean`.
+#![tactic(auto)]
+
+mod chunk;
+mod splitter;
+
+pub use chunk::{ChunkKind, push_end_of_stream};
+pub use splitter::Splitter;
