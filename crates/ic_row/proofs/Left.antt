@@ -1,11 +1,10 @@
 -- What is left where reading stops is no more than there was.
-use Rattle.std.proofs.Common.{◌≡◌, ℕ, zero, suc, ◌-◌, ◌≤◌, Bool, true, false, cond, eqb, ltb, List, [], ◌∷◌, length, take, drop, Option, Some, None, Result, Ok, Err, refl, sym, ap, subst, ◌∙◌, arith, length-drop}
+use Rattle.std.proofs.Common.{◌≡◌, ℕ, zero, suc, ◌≤◌, Bool, true, false, cond, eqb, ltb, List, [], ◌∷◌, length, take, drop, Option, Some, None, Result, Ok, Err, refl, ap, subst, arith, length-drop}
 use Rattle.std.specs.Option.{option_map, ok_or}
 use Rattle.std.specs.Int.{Width, w16, w32, w64, w128, byte_len, from_be_bytes}
 use Rattle.std.specs.Str.{is_utf8}
-use Rattle.std.proofs.lemmas.Bool.{cases_lt}
 use Rattle.ic_row.specs.declared.value.Value.{Value}
-use Rattle.ic_row.specs.declared.value.Value.TheVariants.{Null, Int, Wide, Chars}
+use Rattle.ic_row.specs.declared.value.Value.TheVariants.{Null, Chars}
 use Rattle.ic_row.specs.Reading.{◌>>=◌, number_at, int_from, wide_from, int_at, wide_at, text_from, text_at, value_behind, value_at, values_at, row_at}
 
 -- what a reader leaves behind is no longer than what it was given

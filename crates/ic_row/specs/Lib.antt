@@ -1,4 +1,6 @@
 pub mod Values
 pub mod Spelling
 pub mod Reading
+pub mod Faults
+pub mod Laws
 pub mod Stops

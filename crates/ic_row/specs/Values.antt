@@ -1,5 +1,5 @@
 -- Values and rows as contracts see them.
-use Rattle.std.specs.Prelude.{ℕ, ℤ, Bool, true, false, List, length, get_or, map, Option, Some, None}
+use Rattle.std.specs.Prelude.{ℕ, Bool, true, false, List, get_or, map, Option, Some, None}
 use Rattle.ic_row.specs.declared.value.Value.{Value}
 use Rattle.ic_row.specs.declared.value.Value.TheVariants.{Null, Int, Wide, Chars}
 use Rattle.ic_row.specs.declared.value.Kind.{Kind}

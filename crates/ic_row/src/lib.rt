@@ -5,6 +5,7 @@
 //! Below: `ic_base` for bytes and texts. Above: chunks, predicates, plans and every operator.
 #![tactic(auto)]
 
+mod laws;
 mod reading;
 mod row;
 mod rows;
@@ -12,6 +13,7 @@ mod stop;
 mod value;
 mod writing;
 
+pub use laws::{begins_alone, has_one_spelling, is_prefix_free, reads_what_is_spelled};
 pub use reading::{RowNo, read_row};
 pub use row::Row;
 pub use rows::Rows;

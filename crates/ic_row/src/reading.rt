@@ -1,10 +1,13 @@
 // Bytes as a row.
-ghost use Rattle.std.specs.Prelude.{◌≡◌, length, true, false, IfOk, MatchOption};
+ghost use Rattle.std.specs.Prelude.{◌≡◌, List, length, true, false, IfOk, IfErr, MatchOption};
 ghost use Rattle.std.specs.Option.{ok_or};
 ghost use Rattle.std.specs.Int.{w16};
 ghost use Rattle.std.specs.Str.{is_utf8};
 ghost use Rattle.ic_row.specs.Reading.{Answers, seen, number_at, int_at, wide_at, text_at, value_behind, value_at, values_at, row_at, read_row_of};
+ghost use Rattle.ic_row.specs.Spelling.{Spells};
+ghost use Rattle.ic_row.specs.Faults.{IsFault};
 ghost use Rattle.ic_row.specs.Stops.{Gives};
+ghost use Rattle.ic_row.specs.Values.{Datum};
 
 use crate::row::Row;
 use crate::stop::Stop;
@@ -130,14 +133,26 @@ fn row_of(alloc: Global, bytes: &[u8]) -> Result<Row, Stop>
     Ok(Row::from_vec(values))
 }
 
-/// The row that the whole slice spells. Texts are copied once, as slices; the bytes aren't kept.
-pub fn read_row(alloc: Global, bytes: &[u8]) -> Result<Row, RowNo>
-    // Which row, and which fault.
-    ensures exact { Answers result (read_row_of bytes.now) }
+fn placed(alloc: Global, bytes: &[u8]) -> Result<Row, RowNo>
+    ensures { Answers result (read_row_of bytes.now) }
 {
     match row_of(alloc, bytes) {
         Ok(row) => Ok(row),
         Err(Stop::Left(left)) => Err(RowNo::RowFault(bytes.len() - left)),
         Err(Stop::NoMemory) => Err(RowNo::Memory),
     }
+}
+
+/// The row that the whole slice spells. Texts are copied once, as slices; the bytes aren't kept.
+pub fn read_row(alloc: Global, bytes: &[u8]) -> Result<Row, RowNo>
+    // What is read is spelled so.
+    ensures ok { IfOk result (λ row. Spells row bytes.now) }
+    // What is spelled so is read, unless memory runs out.
+    ensures only { (row : List Datum) → Spells row bytes.now → Answers result (Ok row) }
+    // A fault is the first from the left.
+    ensures fault { IfErr result (IsFault bytes.now) }
+    // The same as a function of the bytes.
+    ensures exact { Answers result (read_row_of bytes.now) }
+{
+    placed(alloc, bytes)
 }

@@ -1,4 +1,3 @@
-use Rattle.std.proofs.Common.{◌≡◌, ◌++◌, ◌∷◌, []}
 use Rattle.std.proofs.lemmas.Result.{err_from_is_err_and}
 use Rattle.ic_row.specs.Reading.{values_at}
 use Rattle.ic_row.proofs.Loop.{goes_on, ends, is_done}

@@ -1,0 +1,22 @@
+// Laws of the spelling, each carried by a function that has nothing to run.
+ghost use Rattle.ic_row.specs.Laws.{ReadsWhatIsSpelled, HasOneSpelling, IsPrefixFree, BeginsAlone};
+
+/// A row that was spelled is read as itself.
+pub fn reads_what_is_spelled()
+    ensures { ReadsWhatIsSpelled }
+{}
+
+/// Two rows have two spellings; that a row has one is said by its being a function.
+pub fn has_one_spelling()
+    ensures { HasOneSpelling }
+{}
+
+/// No spelling is a proper prefix of another.
+pub fn is_prefix_free()
+    ensures { IsPrefixFree }
+{}
+
+/// Bytes that begin with a row's spelling begin with no other row's.
+pub fn begins_alone()
+    ensures { BeginsAlone }
+{}
