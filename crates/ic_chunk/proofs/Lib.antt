@@ -1,1 +1,9 @@
 pub mod CuttingLemmas
+pub mod ReadingLemmas
+pub mod Lists
+pub mod RowTexts
+pub mod Growing
+pub mod Running
+pub mod Completing
+pub mod Parsing
+pub mod Feeding

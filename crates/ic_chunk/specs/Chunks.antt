@@ -1,5 +1,5 @@
 -- The format: chunks, and payloads made of them.
-use Rattle.std.specs.Prelude.{◌≡◌, ℕ, ◌<◌, ◌^◌, List, [], ◌∷◌, ◌++◌, length, Bool, true, false, nat_lt}
+use Rattle.std.specs.Prelude.{◌≡◌, ℕ, ◌<◌, ◌^◌, List, [], ◌∷◌, ◌++◌, length, Bool, true, nat_lt, ◌==◌}
 use Rattle.std.specs.Int.{w16, to_be_bytes}
 use Rattle.std.specs.List.{flat_map}
 use Rattle.ic_chunk.specs.declared.chunk.ChunkKind.{ChunkKind}
@@ -19,19 +19,19 @@ kind_number End = 3
 kind_number EndOfStream = 4
 kind_number Empty = 5
 
--- does a chunk of this kind carry bytes of a row
-abbrev pub carries : ChunkKind → Bool
-carries Whole = true
-carries Start = true
-carries Middle = true
-carries End = true
-carries EndOfStream = false
-carries Empty = false
+-- may a chunk of this kind have a body of this size: at least 1 byte where it carries a row's, and else none
+abbrev pub allows : ChunkKind → ℕ → Bool
+allows Whole size = nat_lt 0 size
+allows Start size = nat_lt 0 size
+allows Middle size = nat_lt 0 size
+allows End size = nat_lt 0 size
+allows EndOfStream size = size == 0
+allows Empty size = size == 0
 
--- an allowed chunk: its size fits in two bytes, and is at least 1 exactly where its kind carries bytes of a row
+-- an allowed chunk: its size fits in two bytes, and its kind allows it
 pub record IsChunk (c : Chunk) : Type 0 where
   pub small : length c.body < 2 ^ 16
-  pub filled : nat_lt 0 (length c.body) ≡ carries c.kind
+  pub allowed : allows c.kind (length c.body) ≡ true
 
 -- the bytes of a chunk: its size and its kind in two bytes each, and then its body
 unfoldable pub spelled : Chunk → List ℕ

@@ -1,6 +1,8 @@
 // One chunk, both ways.
 ghost use Rattle.std.specs.Prelude.{◌≡◌, ℕ, List, ◌<◌, ◌^◌, ◌++◌, length, OnOk, OnErr};
-ghost use Rattle.ic_chunk.specs.Chunks.{Chunk, kind_number, spelled, end_of_stream};
+ghost use Rattle.ic_chunk.specs.Chunks.{Chunk, kind_number, allows, spelled, end_of_stream};
+ghost use Rattle.ic_chunk.specs.Reading.{kind_at, chunk_at};
+ghost use Rattle.ic_chunk.specs.Seen.{seen};
 
 use std::alloc::AllocError;
 
@@ -64,4 +66,49 @@ pub fn push_end_of_stream(out: &mut Vec<u8>) -> Result<(), AllocError>
     ensures err { OnErr result (out.new.items ≡ out.old.items) }
 {
     push_chunk(out, ChunkKind::EndOfStream, &[])
+}
+
+/// The kind of a number, and `None` where it has none.
+#[tactic(auto, unfolding(crate::specs::Reading::kind_at))]
+fn kind_at(number: u16) -> Option<ChunkKind>
+    ensures { result ≡ kind_at number }
+{
+    match number {
+        0 => Some(ChunkKind::Whole),
+        1 => Some(ChunkKind::Start),
+        2 => Some(ChunkKind::Middle),
+        3 => Some(ChunkKind::End),
+        4 => Some(ChunkKind::EndOfStream),
+        5 => Some(ChunkKind::Empty),
+        _ => None,
+    }
+}
+
+/// May a chunk of this kind have a body of this many bytes?
+fn allows(kind: ChunkKind, size: usize) -> bool
+    ensures { result ≡ allows kind size }
+{
+    match kind {
+        ChunkKind::EndOfStream | ChunkKind::Empty => size == 0,
+        _ => size > 0,
+    }
+}
+
+/// A chunk's kind, its body, and the bytes behind it.
+pub(crate) type Found<'a> = Option<(ChunkKind, &'a [u8], &'a [u8])>;
+
+/// The chunk at the front of bytes. `None` where the head or the body is cut off, or the head's words aren't allowed.
+#[tactic(auto, unfolding(crate::specs::Reading::chunk_at))]
+pub(crate) fn chunk_at(bytes: &[u8]) -> Found<'_>
+    ensures { seen result ≡ chunk_at bytes.now }
+{
+    let (size, rest) = bytes.split_first_chunk::<2>()?;
+    let (number, rest) = rest.split_first_chunk::<2>()?;
+    let kind = kind_at(u16::from_be_bytes(*number))?;
+    let size = usize::from(u16::from_be_bytes(*size));
+    if rest.len() < size || !allows(kind, size) {
+        return None;
+    }
+    let (body, rest) = rest.split_at(size);
+    Some((kind, body, rest))
 }
