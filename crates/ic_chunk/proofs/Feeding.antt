@@ -9,7 +9,8 @@ use Rattle.ic_chunk.specs.Reading.{Standing, Step, chunk_at, goes_on, run, fresh
 use Rattle.ic_chunk.specs.Assembly.{together, IsFront, Assembles, IsStream, IsFaultAt}
 use Rattle.ic_chunk.specs.Joining.{IsStuck}
 use Rattle.ic_chunk.proofs.Lists.{all_back, all_by, together-append, together-push}
-use Rattle.ic_chunk.proofs.ReadingLemmas.{IsBytes, chunk_at-spelled, some_same}
+use Rattle.ic_chunk.specs.Seen.{IsBytes}
+use Rattle.ic_chunk.proofs.ReadingLemmas.{chunk_at-spelled, some_same}
 use Rattle.ic_chunk.proofs.Running.{IsRead, grown_many, halves, first_of_run}
 use Rattle.ic_chunk.proofs.Completing.{completed}
 use Rattle.ic_chunk.proofs.Parsing.{not_nil, front-chunks, begins, follows}

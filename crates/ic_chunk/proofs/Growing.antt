@@ -13,7 +13,8 @@ use Rattle.ic_chunk.specs.Chunks.{Chunk, IsChunk, allows, end_of_stream, body_of
 use Rattle.ic_chunk.specs.Reading.{Standing, Step, is_nil, may_stand, goes, ends, does, goes_on}
 use Rattle.ic_chunk.specs.Assembly.{IsPart, without_empty, is_empty, IsTail, IsGroup, AreMiddles, IsPending, together, ending, IsFront}
 use Rattle.ic_chunk.proofs.Lists.{all_both, all_front, all_back, zip_both, together-push}
-use Rattle.ic_chunk.proofs.ReadingLemmas.{IsBytes, IsBytes-append}
+use Rattle.ic_chunk.specs.Seen.{IsBytes}
+use Rattle.ic_chunk.proofs.ReadingLemmas.{IsBytes-append}
 use Rattle.ic_chunk.proofs.RowTexts.{read_is}
 
 -- ---- chunks without the empty ones

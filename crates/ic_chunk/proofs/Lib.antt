@@ -7,3 +7,7 @@ pub mod Running
 pub mod Completing
 pub mod Parsing
 pub mod Feeding
+pub mod Taking
+pub mod Fronts
+pub mod OneWay
+pub mod Standings

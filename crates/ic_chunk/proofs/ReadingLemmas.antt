@@ -9,12 +9,10 @@ use Rattle.std.proofs.lemmas.List.{take_at, drop_at, take-append-drop, get_or-dr
 use Rattle.ic_chunk.specs.declared.chunk.ChunkKind.{ChunkKind}
 use Rattle.ic_chunk.specs.declared.chunk.ChunkKind.TheVariants.{Whole, Start, Middle, End, EndOfStream, Empty}
 use Rattle.ic_chunk.specs.Chunks.{Chunk, IsChunk, kind_number, allows, spelled}
+use Rattle.ic_chunk.specs.Seen.{IsBytes}
 use Rattle.ic_chunk.specs.Reading.{kind_at, body_at, chunk_at}
 
 -- ---- lists of bytes
-
-abbrev pub IsBytes : List ℕ → Type 0
-IsBytes bytes = (i : ℕ) → get_or bytes i 0 < 256
 
 pub IsBytes-drop : (n : ℕ) (bytes : List ℕ) → IsBytes bytes → IsBytes (drop n bytes)
 IsBytes-drop n bytes h i = rw get_or-drop (h (n + i))

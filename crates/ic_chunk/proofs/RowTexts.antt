@@ -4,7 +4,7 @@ use Rattle.ic_row.specs.declared.value.Value.{Value}
 use Rattle.ic_row.specs.Spelling.{Spells}
 use Rattle.ic_row.specs.Reading.{row_at, placed, read_row_of}
 use Rattle.ic_row.proofs.RowLemmas as rows
-use Rattle.ic_chunk.proofs.ReadingLemmas.{IsBytes}
+use Rattle.ic_chunk.specs.Seen.{IsBytes}
 
 placed_ok : (bytes : List ℕ) (r : Result (List Value) ℕ) (row : List Value) → placed bytes r ≡ Ok row → r ≡ Ok row
 placed_ok bytes (Ok x) row e = e

@@ -9,7 +9,8 @@ use Rattle.ic_chunk.specs.declared.chunk.ChunkKind.TheVariants.{Whole, Start, Mi
 use Rattle.ic_chunk.specs.Chunks.{Chunk, IsChunk}
 use Rattle.ic_chunk.specs.Reading.{Standing, Step, is_nil, may_stand, goes, ends, does, goes_on, behind, run}
 use Rattle.ic_chunk.specs.Assembly.{IsFront}
-use Rattle.ic_chunk.proofs.ReadingLemmas.{IsBytes, IsBytes-append, and_then_some}
+use Rattle.ic_chunk.specs.Seen.{IsBytes}
+use Rattle.ic_chunk.proofs.ReadingLemmas.{IsBytes-append, and_then_some}
 use Rattle.ic_chunk.proofs.Growing.{guarded, ends_with, grown}
 
 pub behind-nil : (o : Option Step) → behind [] o ≡ o

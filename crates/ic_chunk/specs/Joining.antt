@@ -2,6 +2,8 @@
 use Rattle.std.specs.Prelude.{◌≡◌, ◌≢◌, ℕ, min, length, drop, List, [], ◌∷◌, ◌++◌, Bool, true, false, Option, Some, None, IsSome, Result, Ok, Err}
 use Rattle.std.specs.List.{AllByRecursion}
 use Rattle.ic_row.specs.declared.value.Value.{Value}
+use Rattle.ic_chunk.specs.declared.joiner.Fed.{Fed}
+use Rattle.ic_chunk.specs.declared.fault.FeedNo.{FeedNo}
 use Rattle.ic_chunk.specs.Chunks.{Chunk, IsChunk, payload_of}
 use Rattle.ic_chunk.specs.Reading.{Standing, Step, chunk_at, goes_on, run}
 use Rattle.ic_chunk.specs.Assembly.{Assembles, IsStream}
@@ -16,6 +18,19 @@ pub record Held : Type 0 where
 pub record Stands (held : Held) (payloads : List (List ℕ)) (rows : List (List Value)) : Type 0 where
   pub sound : held.fault ≡ None → Assembles payloads rows held.rest held.ended
   pub faulty : IsSome held.fault → IsStream payloads → ⊥
+
+-- the rows that an answer gives
+abbrev pub rows_of : Result Fed FeedNo → List (List Value)
+rows_of (Ok fed) = fed.rows
+rows_of (Err no_rows) = []
+
+-- a number as it is told in four bytes: the greatest that they hold in place of each that is greater
+abbrev pub told : ℕ → ℕ
+told n = min n 4294967295
+
+-- this number is told of one with this property
+abbrev pub IsTold : (ℕ → Type 0) → ℕ → Type 0
+IsTold P k = (n : ℕ) × P n × (k ≡ told n)
 
 -- ---- while a payload is read
 
@@ -57,7 +72,3 @@ pub record Stops (bytes : List ℕ) (count : ℕ) (from : Standing) : Type 0 whe
   pub came : Came bytes left count from to [] rows
   pub more : left ≢ []
   pub stuck : IsStuck to (chunk_at left)
-
--- a number as it is told in four bytes: the greatest in place of all that are greater
-abbrev pub told : ℕ → ℕ
-told n = min n 4294967295

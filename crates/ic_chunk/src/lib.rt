@@ -9,7 +9,12 @@
 #![tactic(auto)]
 
 mod chunk;
+mod draft;
+mod fault;
+mod joiner;
 mod splitter;
 
 pub use chunk::{ChunkKind, push_end_of_stream};
+pub use fault::FeedNo;
+pub use joiner::{Fed, Joiner};
 pub use splitter::Splitter;
