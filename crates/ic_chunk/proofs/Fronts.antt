@@ -141,6 +141,9 @@ first_of xs ys rows rest true f =
       | inr w ↦ first_parts xs ys rows rest true f w.0 w.1
     ]
 
+both : {A : Type 0} (x y : A) (xs ys : List A) → x ≡ y → xs ≡ ys → x ∷ xs ≡ y ∷ ys
+both x y xs ys e f = cc
+
 -- payloads, cut
 front_payloads : (payloads more : List (List ℕ)) (css : List (List Chunk)) → payloads ++ more ≡ map payload_of css → (front : List (List Chunk)) × (back : List (List Chunk)) × (css ≡ front ++ back) × (payloads ≡ map payload_of front)
 front_payloads [] more css h = ([], css, refl, refl)
@@ -149,7 +152,7 @@ front_payloads (p ∷ ps) more (cs ∷ css) h =
     let first : p ≡ payload_of cs = cc in
     let others : ps ++ more ≡ map payload_of css = cc in
     let w = front_payloads ps more css others in
-    (cs ∷ w.0, w.1, ap (λ l. cs ∷ l) w.2, ap (λ x. x ∷ ps) first ∙ ap (λ l. payload_of cs ∷ l) w.3)
+    (cs ∷ w.0, w.1, both cs cs css (w.0 ++ w.1) refl w.2, both p (payload_of cs) ps (map payload_of w.0) first w.3)
 
 -- the law
 pub front_assembles : FrontAssembles

@@ -11,3 +11,4 @@ pub mod Taking
 pub mod Fronts
 pub mod OneWay
 pub mod Standings
+pub mod CutLaws

@@ -56,9 +56,10 @@ pub faults : (held : Held) (payloads : List (List ℕ)) (rows : List (List Value
     → Stops payload count (record { rest = held.rest; ended = held.ended }) → (IsStream (payloads ++ payload ∷ []) → ⊥) × IsFaultAt payloads payload count
 faults held payloads rows payload count sound h fits these stops =
     let came = stops.came in
-    let read = all_read came.chunks stops.left came.each (subst IsBytes came.are fits) in
-    (broken payloads rows held.rest held.ended came.chunks (came.rows, stops.to) stops.left payload (h.sound sound) came.each came.goes stops.stuck came.are stops.more,
-      subst (IsFaultAt payloads payload) (sym came.number) (fault_at payloads rows held.rest held.ended came.chunks (came.rows, stops.to) stops.left payload (h.sound sound) read these came.goes stops.stuck came.are stops.more))
+    let read = all_read came.chunks stops.left came.each (subst IsBytes came.are fits) in (
+      broken payloads rows held.rest held.ended came.chunks (came.rows, stops.to) stops.left payload (h.sound sound) came.each came.goes stops.stuck came.are stops.more,
+      subst (IsFaultAt payloads payload) (sym came.number) (fault_at payloads rows held.rest held.ended came.chunks (came.rows, stops.to) stops.left payload (h.sound sound) read these came.goes stops.stuck came.are stops.more),
+    )
 
 pub not_both : (fault : Option ℕ) → IsSome fault → fault ≡ None → ⊥
 not_both None h e = cc
@@ -81,7 +82,7 @@ feed_ok held payloads rows payload bytes ended count to old new given rest_now e
     let a = feeds held payloads rows new payload count to none h fits these from in
     subst (λ (l : List (List Value)). Assembles (payloads ++ payload ∷ []) (rows ++ l) rest_now ended_now) (sym given-is)
     (subst (λ (r : List ℕ). Assembles (payloads ++ payload ∷ []) (rows ++ new) r ended_now) (sym rest-is)
-      (subst (λ (e : Bool). Assembles (payloads ++ payload ∷ []) (rows ++ new) to.rest e) (sym now-is) a))
+    (subst (λ (e : Bool). Assembles (payloads ++ payload ∷ []) (rows ++ new) to.rest e) (sym now-is) a))
 
 pub feed_fault : (held : Held) (payloads : List (List ℕ)) (rows : List (List Value)) (payload bytes : List ℕ) (ended : Bool) (count : ℕ)
     → Stands held payloads rows → held.fault ≡ None → IsBytes payload → IsBytes held.rest → bytes ≡ held.rest → ended ≡ held.ended

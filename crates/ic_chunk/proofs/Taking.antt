@@ -132,7 +132,11 @@ pub stops-refused : (bytes left more : List ℕ) (count : ℕ) (from to then : S
     → chunk_at left ≡ Some (c, more) → Took (goes_on to c) false new newer then → Stops bytes count from
 stops-refused bytes left more count from to then old new newer c h some read took =
     record {
-      left = left; to = to; rows = h.rows; came = since_none bytes left count from to old new h; more = some;
+      left = left;
+      to = to;
+      rows = h.rows;
+      came = since_none bytes left count from to old new h;
+      more = some;
       stuck = subst (IsStuck to) (sym read) (is_refused to c new newer then took);
     }
 

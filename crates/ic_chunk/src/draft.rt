@@ -60,7 +60,12 @@ impl Draft {
     }
 
     /// Takes a chunk that may stand here, and says false where bytes spell no row.
-    fn take_allowed(&mut self, alloc: Global, kind: ChunkKind, body: &[u8]) -> Result<bool, AllocError>
+    fn take_allowed(
+        &mut self,
+        alloc: Global,
+        kind: ChunkKind,
+        body: &[u8],
+    ) -> Result<bool, AllocError>
         requires open { self.old.ended ≡ false }
         requires allowed { may_stand kind (drop self.old.from self.old.bytes.items) ≡ true }
         ensures took { IfOk result (λ went. Took (does kind (drop self.old.from self.old.bytes.items) body.now) went self.old.rows self.new.rows (standing_at self.new.from self.new.bytes.items self.new.ended)) }

@@ -12,9 +12,14 @@ mod chunk;
 mod draft;
 mod fault;
 mod joiner;
+mod laws;
 mod splitter;
 
 pub use chunk::{ChunkKind, push_end_of_stream};
 pub use fault::FeedNo;
 pub use joiner::{Fed, Joiner};
+pub use laws::{cut_assembles, front_assembles, one_assembly};
 pub use splitter::Splitter;
+
+#[cfg(test)]
+mod tests;

@@ -26,8 +26,8 @@ returns-in-Ok-clause-ok c =
     let same : c.self.inside.ended ≡ held.ended = ap (λ (h : Held). h.ended) c.self.view_is in
     let kept = c.keep.ensures.kept in
     λ payloads rows h.
-      feed_ok held payloads rows c.args.payload.now c.replace.result.items c.self.inside.ended c.in-Ok.ensures.ok.0 (standing_at to.from to.bytes.items to.ended) c.new-2.result to.rows c.keep.result.rows c.keep.new.self.rest c.keep.result.ended
-      h none fits (subst IsBytes (sym rest) c.len_of-kept.ensures.each) bytes same c.new-2.ensures c.in-Ok.ensures.ok.1 c.keep.ensures.given.0 (ap (λ (h : Held). h.rest) kept) c.keep.ensures.given.1
+    feed_ok held payloads rows c.args.payload.now c.replace.result.items c.self.inside.ended c.in-Ok.ensures.ok.0 (standing_at to.from to.bytes.items to.ended) c.new-2.result to.rows c.keep.result.rows c.keep.new.self.rest c.keep.result.ended
+    h none fits (subst IsBytes (sym rest) c.len_of-kept.ensures.each) bytes same c.new-2.ensures c.in-Ok.ensures.ok.1 c.keep.ensures.given.0 (ap (λ (h : Held). h.rest) kept) c.keep.ensures.given.1
 
 pub returns-in-Ok-clause-stands : goal.returns-in-Ok-clause-stands
 returns-in-Ok-clause-stands c =
@@ -35,11 +35,11 @@ returns-in-Ok-clause-stands c =
     let ended : now.ended ≡ c.keep.result.ended = ap (λ (h : Held). h.ended) c.keep.ensures.kept ∙ sym c.keep.ensures.given.1 in
     let none : now.fault ≡ None = ap (λ (h : Held). h.fault) c.keep.ensures.kept ∙ c.in_default.is in
     λ _ payloads rows h.
-      let a = returns-in-Ok-clause-ok c payloads rows h in
-      record {
-        sound = λ e. subst (λ (b : Bool). Assembles (payloads ++ c.args.payload.now ∷ []) (rows ++ c.keep.result.rows) now.rest b) (sym ended) a;
-        faulty = λ spoilt s. not_both now.fault spoilt none;
-      }
+    let a = returns-in-Ok-clause-ok c payloads rows h in
+    record {
+      sound = λ e. subst (λ (b : Bool). Assembles (payloads ++ c.args.payload.now ∷ []) (rows ++ c.keep.result.rows) now.rest b) (sym ended) a;
+      faulty = λ spoilt s. not_both now.fault spoilt none;
+    }
 
 faulty : (c : goal.After-drop-draft-in-ChunkFault-1) (payloads : List (List ℕ)) (rows : List (List Value)) → Stands c.args.self.now payloads rows
     → (IsStream (payloads ++ c.args.payload.now ∷ []) → ⊥) × ((n : ℕ) × IsFaultAt payloads c.args.payload.now n × (c.in-Err-ChunkFault.chunk ≡ told n))
@@ -56,13 +56,13 @@ faulty c payloads rows h =
 
 pub returns-in-Err-ChunkFault-clause-fault : goal.returns-in-Err-ChunkFault-clause-fault
 returns-in-Err-ChunkFault-clause-fault c = λ k e _ payloads rows h.
-  let same : c.in-Err-ChunkFault.chunk ≡ k = cc in
-  let f = faulty c payloads rows h in
-  (f.0, (f.1.0, f.1.1, sym same ∙ f.1.2))
+    let same : c.in-Err-ChunkFault.chunk ≡ k = cc in
+    let f = faulty c payloads rows h in
+    (f.0, (f.1.0, f.1.1, sym same ∙ f.1.2))
 
 pub returns-in-Err-ChunkFault-clause-stands : goal.returns-in-Err-ChunkFault-clause-stands
 returns-in-Err-ChunkFault-clause-stands c = λ _ payloads rows h.
-  record {
-    sound = λ e. absurd (not_both (Some c.in-Err-ChunkFault.chunk) refl e);
-    faulty = λ spoilt s. (faulty c payloads rows h).0 s;
-  }
+    record {
+      sound = λ e. absurd (not_both (Some c.in-Err-ChunkFault.chunk) refl e);
+      faulty = λ spoilt s. (faulty c payloads rows h).0 s;
+    }
