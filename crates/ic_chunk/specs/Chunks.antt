@@ -10,6 +10,9 @@ pub record Chunk : Type 0 where
   pub kind : ChunkKind
   pub body : List ℕ
 
+abbrev pub chunk_of : ChunkKind → List ℕ → Chunk
+chunk_of kind body = record { kind = kind; body = body }
+
 -- the number that stands for a kind
 abbrev pub kind_number : ChunkKind → ℕ
 kind_number Whole = 0

@@ -5,3 +5,4 @@ pub mod Assembly
 pub mod Joining
 pub mod Laws
 pub mod Seen
+pub mod Drafts

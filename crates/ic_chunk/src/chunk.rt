@@ -1,6 +1,6 @@
 // One chunk, both ways.
 ghost use Rattle.std.specs.Prelude.{◌≡◌, ℕ, List, ◌<◌, ◌^◌, ◌++◌, length, OnOk, OnErr};
-ghost use Rattle.ic_chunk.specs.Chunks.{Chunk, kind_number, allows, spelled, end_of_stream};
+ghost use Rattle.ic_chunk.specs.Chunks.{chunk_of, kind_number, allows, spelled, end_of_stream};
 ghost use Rattle.ic_chunk.specs.Reading.{kind_at, chunk_at};
 ghost use Rattle.ic_chunk.specs.Seen.{seen};
 
@@ -40,7 +40,7 @@ fn number_of(kind: ChunkKind) -> u16
 /// The four bytes in front of a body of this many bytes.
 #[tactic(auto, unfolding(crate::specs::Chunks::spelled))]
 fn head(kind: ChunkKind, size: u16) -> [u8; 4]
-    ensures { (body : List ℕ) → length body ≡ size → spelled (record { kind = kind; body = body }) ≡ result ++ body }
+    ensures { (body : List ℕ) → length body ≡ size → spelled (chunk_of kind body) ≡ result ++ body }
 {
     let size = size.to_be_bytes();
     let number = number_of(kind).to_be_bytes();
@@ -50,7 +50,7 @@ fn head(kind: ChunkKind, size: u16) -> [u8; 4]
 /// Appends a chunk. Grows `out` at most once, and copies the body once.
 pub(crate) fn push_chunk(out: &mut Vec<u8>, kind: ChunkKind, body: &[u8]) -> Result<(), AllocError>
     requires { length body.now < 2 ^ 16 }
-    ensures ok { OnOk result (out.new.items ≡ out.old.items ++ spelled (record { kind = kind; body = body.now })) }
+    ensures ok { OnOk result (out.new.items ≡ out.old.items ++ spelled (chunk_of kind body.now)) }
     ensures err { OnErr result (out.new.items ≡ out.old.items) }
 {
     let head = head(kind, body.len() as u16);

@@ -1,9 +1,9 @@
 // A payload while it is read.
 ghost use Rattle.std.specs.Prelude.{◌≡◌, ◌≤◌, ℕ, List, [], ◌++◌, length, take, drop, true, false, None, IfOk, OnOk, MatchOption, vec_len, Ok, Err};
 ghost use Rattle.ic_row.specs.Reading.{read_row_of};
-ghost use Rattle.ic_chunk.specs.Chunks.{Chunk};
+ghost use Rattle.ic_chunk.specs.Chunks.{chunk_of};
 ghost use Rattle.ic_chunk.specs.Reading.{is_nil, may_stand, goes, ends, does, goes_on};
-ghost use Rattle.ic_chunk.specs.Joining.{standing_at, Keeps, Took, Came, Stops, told};
+ghost use Rattle.ic_chunk.specs.Joining.{Keeps, Stops, IsTold, told};
 
 use crate::chunk::{ChunkKind, chunk_at};
 use crate::fault::FeedNo;
@@ -38,7 +38,9 @@ fn may_stand(kind: ChunkKind, between: bool) -> bool
 
 /// The row that bytes spell, and `None` where they spell none.
 fn row_of(alloc: Global, bytes: &[u8]) -> Result<Option<Row>, AllocError>
-    ensures { IfOk result (λ found. MatchOption found (ends (read_row_of bytes.now) ≡ None) (λ row. read_row_of bytes.now ≡ Ok row)) }
+    ensures { IfOk result (λ found. MatchOption found
+        (ends (read_row_of bytes.now) ≡ None)
+        (λ row. read_row_of bytes.now ≡ Ok row)) }
 {
     match read_row(alloc, bytes) {
         Ok(row) => Ok(Some(row)),
@@ -48,9 +50,11 @@ fn row_of(alloc: Global, bytes: &[u8]) -> Result<Option<Row>, AllocError>
 }
 
 impl Draft {
+    ghost use Rattle.ic_chunk.specs.Drafts.{standing, Takes, Reads};
+
     /// Takes a chunk, and says false where it doesn't go on with the stream.
     fn take(&mut self, alloc: Global, kind: ChunkKind, body: &[u8]) -> Result<bool, AllocError>
-        ensures took { IfOk result (λ went. Took (goes_on (standing_at self.old.from self.old.bytes.items self.old.ended) (record { kind = kind; body = body.now })) went self.old.rows self.new.rows (standing_at self.new.from self.new.bytes.items self.new.ended)) }
+        ensures took { IfOk result (Takes (goes_on (standing self.old) (chunk_of kind body.now)) self.old self.new) }
         ensures keeps { Keeps self.old.bytes.items self.new.bytes.items }
     {
         if self.ended || !may_stand(kind, self.from == self.bytes.len()) {
@@ -67,8 +71,8 @@ impl Draft {
         body: &[u8],
     ) -> Result<bool, AllocError>
         requires open { self.old.ended ≡ false }
-        requires allowed { may_stand kind (drop self.old.from self.old.bytes.items) ≡ true }
-        ensures took { IfOk result (λ went. Took (does kind (drop self.old.from self.old.bytes.items) body.now) went self.old.rows self.new.rows (standing_at self.new.from self.new.bytes.items self.new.ended)) }
+        requires allowed { may_stand kind (standing self.old).rest ≡ true }
+        ensures took { IfOk result (Takes (does kind (standing self.old).rest body.now) self.old self.new) }
         ensures keeps { Keeps self.old.bytes.items self.new.bytes.items }
     {
         match kind {
@@ -85,8 +89,8 @@ impl Draft {
 
     fn take_whole(&mut self, alloc: Global, body: &[u8]) -> Result<bool, AllocError>
         requires open { self.old.ended ≡ false }
-        requires between { drop self.old.from self.old.bytes.items ≡ [] }
-        ensures took { IfOk result (λ went. Took (ends (read_row_of body.now)) went self.old.rows self.new.rows (standing_at self.new.from self.new.bytes.items self.new.ended)) }
+        requires between { (standing self.old).rest ≡ [] }
+        ensures took { IfOk result (Takes (ends (read_row_of body.now)) self.old self.new) }
         ensures keeps { Keeps self.old.bytes.items self.new.bytes.items }
     {
         match row_of(alloc, body)? {
@@ -100,7 +104,7 @@ impl Draft {
 
     fn take_part(&mut self, body: &[u8]) -> Result<bool, AllocError>
         requires open { self.old.ended ≡ false }
-        ensures took { IfOk result (λ went. Took (goes (drop self.old.from self.old.bytes.items ++ body.now)) went self.old.rows self.new.rows (standing_at self.new.from self.new.bytes.items self.new.ended)) }
+        ensures took { IfOk result (Takes (goes ((standing self.old).rest ++ body.now)) self.old self.new) }
         ensures keeps { Keeps self.old.bytes.items self.new.bytes.items }
     {
         self.bytes.extend_from_slice(body)?;
@@ -109,7 +113,7 @@ impl Draft {
 
     fn take_end(&mut self, alloc: Global, body: &[u8]) -> Result<bool, AllocError>
         requires open { self.old.ended ≡ false }
-        ensures took { IfOk result (λ went. Took (ends (read_row_of (drop self.old.from self.old.bytes.items ++ body.now))) went self.old.rows self.new.rows (standing_at self.new.from self.new.bytes.items self.new.ended)) }
+        ensures took { IfOk result (Takes (ends (read_row_of ((standing self.old).rest ++ body.now))) self.old self.new) }
         ensures keeps { Keeps self.old.bytes.items self.new.bytes.items }
     {
         self.bytes.extend_from_slice(body)?;
@@ -126,8 +130,9 @@ impl Draft {
 
     /// Reads a payload from its first chunk to its last, each once.
     pub(crate) fn read(&mut self, alloc: Global, payload: &[u8]) -> Result<(), FeedNo>
-        ensures ok { OnOk result ((count : ℕ) × Came payload.now [] count (standing_at self.old.from self.old.bytes.items self.old.ended) (standing_at self.new.from self.new.bytes.items self.new.ended) self.old.rows self.new.rows) }
-        ensures fault { (k : ℕ) → result ≡ Err (FeedNo.ChunkFault k) → (count : ℕ) × (k ≡ told count) × Stops payload.now count (standing_at self.old.from self.old.bytes.items self.old.ended) }
+        ensures ok { OnOk result (Reads payload.now self.old self.new) }
+        ensures fault { (k : ℕ) → result ≡ Err (FeedNo.ChunkFault k)
+            → IsTold (λ count. Stops payload.now count (standing self.old)) k }
         ensures keeps { Keeps self.old.bytes.items self.new.bytes.items }
     {
         let mut left = payload;

@@ -59,18 +59,23 @@ impl Joiner {
     /// Takes the next payload: walks its chunks once, and copies the bodies of starts, middles and ends once.
     pub fn feed(&mut self, alloc: Global, payload: &[u8]) -> Result<Fed, FeedNo>
         // The payloads so far with this one assemble to the rows so far and these.
-        ensures ok { IfOk result (λ fed. (payloads : List (List ℕ)) (rows : List (List Datum)) → Stands self.old payloads rows
+        ensures ok { IfOk result (λ fed. (payloads : List (List ℕ)) (rows : List (List Datum))
+            → Stands self.old payloads rows
             → Assembles (payloads ++ payload.now ∷ []) (rows ++ fed.rows) self.new.rest fed.ended) }
         ensures ended { IfOk result (λ fed. self.new ≡ record self.new { ended = fed.ended; fault = None }) }
 
         // They are the front of no stream, and this chunk of the payload is the first that doesn't go on with it.
-        ensures fault { (k : ℕ) → IsErrOf result (FeedNo.ChunkFault k) → IsNone self.old.fault → (payloads : List (List ℕ)) (rows : List (List Datum)) → Stands self.old payloads rows
+        ensures fault { (k : ℕ) → IsErrOf result (FeedNo.ChunkFault k) → IsNone self.old.fault
+            → (payloads : List (List ℕ)) (rows : List (List Datum)) → Stands self.old payloads rows
             → (IsStream (payloads ++ payload.now ∷ []) → ⊥) × IsTold (IsFaultAt payloads payload.now) k }
-        ensures emptied { (k : ℕ) → IsErrOf result (FeedNo.ChunkFault k) → IsNone self.old.fault → self.new ≡ record self.old { rest = []; fault = Some k } }
-        ensures again { (k : ℕ) → self.old.fault ≡ Some k → (self.new ≡ self.old) × (result ≡ Err (FeedNo.ChunkFault k)) }
+        ensures emptied { (k : ℕ) → IsErrOf result (FeedNo.ChunkFault k) → IsNone self.old.fault
+            → self.new ≡ record self.old { rest = []; fault = Some k } }
+        ensures again { (k : ℕ) → self.old.fault ≡ Some k
+            → (self.new ≡ self.old) × (result ≡ Err (FeedNo.ChunkFault k)) }
 
         ensures memory { IsErrOf result FeedNo.Memory → self.new ≡ self.old }
-        ensures stands { result ≢ Err FeedNo.Memory → (payloads : List (List ℕ)) (rows : List (List Datum)) → Stands self.old payloads rows
+        ensures stands { result ≢ Err FeedNo.Memory
+            → (payloads : List (List ℕ)) (rows : List (List Datum)) → Stands self.old payloads rows
             → Stands self.new (payloads ++ payload.now ∷ []) (rows ++ rows_of result) }
     {
         if let Some(chunk) = self.fault {

@@ -49,8 +49,10 @@ impl Splitter {
 
     /// Appends the next chunk to `out`, and says false where none is left.
     pub fn next(&mut self, out: &mut Vec<u8>) -> Result<bool, AllocError>
-        ensures chunk { result ≡ Ok true → (c : Chunk) × (self.old ≡ c ∷ self.new) × (out.new.items ≡ out.old.items ++ spelled c) }
-        ensures last { result ≡ Ok false → (self.old ≡ []) × (self.new ≡ []) × (out.new.items ≡ out.old.items) }
+        ensures chunk { result ≡ Ok true
+            → (c : Chunk) × (self.old ≡ c ∷ self.new) × (out.new.items ≡ out.old.items ++ spelled c) }
+        ensures last { result ≡ Ok false
+            → (self.old ≡ []) × (self.new ≡ []) × (out.new.items ≡ out.old.items) }
         ensures err { OnErr result ((self.new ≡ self.old) × (out.new.items ≡ out.old.items)) }
     {
         let (_, left) = self.row.as_slice().split_at(self.done);

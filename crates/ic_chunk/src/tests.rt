@@ -1,4 +1,6 @@
 // Worked bytes, and what no clause says: that memory serves.
+ghost use Rattle.std.specs.Prelude.{◌≤◌};
+
 use super::*;
 use ic_base::Bytes;
 use ic_row::Value;

@@ -19,7 +19,7 @@ returns-in_default-clause-fault c =
     let some : left ≢ [] = not_nil_from left (sym c.is_empty.ensures ∙ c.loop-left-test.true) in
     λ k e.
     let is : k ≡ told c.loop-left.count = cc in
-    (c.loop-left.count, is, stops-unread _ left _ _ _ _ _ c.loop-left.invariant.came some none)
+    (c.loop-left.count, stops-unread _ left _ _ _ _ _ c.loop-left.invariant.came some none, is)
 
 pub returns-then-not-branch-clause-fault : goal.returns-then-not-branch-clause-fault
 returns-then-not-branch-clause-fault c =
@@ -32,7 +32,7 @@ returns-then-not-branch-clause-fault c =
     let refused = subst (λ (b : Bool). Took (goes_on (standing_at s.from s.bytes.items s.ended) chunk) b s.rows t.rows (standing_at t.from t.bytes.items t.ended)) c.if-not-branch.true c.in_ok-take.ensures.took in
     λ k e.
     let is : k ≡ told c.loop-left.count = cc in
-    (c.loop-left.count, is, stops-refused _ left c.in-Some.more.now _ _ _ _ _ _ _ chunk c.loop-left.invariant.came some read refused)
+    (c.loop-left.count, stops-refused _ left c.in-Some.more.now _ _ _ _ _ _ _ chunk c.loop-left.invariant.came some read refused, is)
 
 pub overflow_add-count : goal.overflow_add-count
 overflow_add-count c =

@@ -51,8 +51,8 @@ faulty c payloads rows h =
     let bytes : c.replace.result.items ≡ held.rest = ap (λ (v : Vec ℕ Global). v.items) c.replace.ensures.value ∙ ap (λ (h : Held). h.rest) c.self.view_is in
     let same : c.self.inside.ended ≡ held.ended = ap (λ (h : Held). h.ended) c.self.view_is in
     let w = c.in-Err-ChunkFault.ensures.fault c.in-Err-ChunkFault.chunk (ap (λ e. Err e) c.in-Err-ChunkFault.field-0-is) in
-    let f = feed_fault held payloads rows c.args.payload.now c.replace.result.items c.self.inside.ended w.0 h none fits (subst IsBytes (sym rest) c.len_of-kept.ensures.each) bytes same w.2 in
-    (f.0, (w.0, f.1, w.1))
+    let f = feed_fault held payloads rows c.args.payload.now c.replace.result.items c.self.inside.ended w.0 h none fits (subst IsBytes (sym rest) c.len_of-kept.ensures.each) bytes same w.1 in
+    (f.0, (w.0, f.1, w.2))
 
 pub returns-in-Err-ChunkFault-clause-fault : goal.returns-in-Err-ChunkFault-clause-fault
 returns-in-Err-ChunkFault-clause-fault c = λ k e _ payloads rows h.
