@@ -88,6 +88,17 @@ impl Rows {
         self.items.as_slice()
     }
 
+    /// Another owner of each row.
+    pub fn share(&self, alloc: Global) -> Result<Rows, AllocError>
+        ensures { IfOk result (λ r. r ≡ self.now) }
+    {
+        let mut items = Vec::with_capacity(alloc, self.items.len())?;
+        for row in self.items.as_slice() {
+            items.push(row.share()?)?;
+        }
+        Ok(Rows { items })
+    }
+
     /// Adds a row at the end.
     pub fn push(&mut self, row: Row) -> Result<(), AllocError>
         ensures ok { OnOk result (self.new ≡ self.old ++ row ∷ []) }
@@ -95,5 +106,39 @@ impl Rows {
     {
         self.items.push(row)?;
         Ok(())
+    }
+}
+
+/// The rows of each segment, from segment 0 on, seen as a list.
+#[derive(Drop)]
+pub struct Parts {
+    items: Vec<Rows>,
+}
+
+impl Model for Parts {
+    ghost use Rattle.std.specs.Prelude.{ℤ, List};
+
+    ghost Value = { List (List (List ℤ)) };
+
+    ghost view = { λ p. p.items.items };
+}
+
+impl Parts {
+    pub fn from_vec(items: Vec<Rows>) -> Parts
+        ensures { result ≡ items.items }
+    {
+        Parts { items }
+    }
+
+    pub fn into_vec(self) -> Vec<Rows>
+        ensures { result.items ≡ self }
+    {
+        self.items
+    }
+
+    pub fn as_slice(&self) -> &[Rows]
+        ensures { result.now ≡ self.now }
+    {
+        self.items.as_slice()
     }
 }

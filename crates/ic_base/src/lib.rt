@@ -7,6 +7,8 @@
 mod bytes;
 mod drops;
 mod keys;
+#[cfg(test)]
+mod tests;
 mod text;
 
 pub use bytes::Bytes;

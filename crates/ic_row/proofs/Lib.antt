@@ -7,3 +7,6 @@ pub mod ValueLemmas
 pub mod RowLemmas
 pub mod FaultLemmas
 pub mod Answered
+pub mod OrderLemmas
+pub mod TotalLemmas
+pub mod HashLemmas

@@ -31,14 +31,14 @@ unfoldable pub spelling_of : List Value → List ℕ
 spelling_of row = to_be_bytes w16 (length row) ++ flat_map value_spelling row
 
 -- a text is shorter than 2 ^ 32 bytes
-abbrev pub fits_length : Value → Type 0
-fits_length (Chars text) = length text < 2 ^ 32
-fits_length _ = Unit {0}
+abbrev pub FitsLength : Value → Type 0
+FitsLength (Chars text) = length text < 2 ^ 32
+FitsLength _ = Unit {0}
 
 -- what can be spelled: fewer than 2 ^ 16 values, and no text too long
 pub record HasLengths (row : List Value) : Type 0 where
   pub count : length row < 2 ^ 16
-  pub texts : AllByRecursion fits_length row
+  pub texts : AllByRecursion FitsLength row
 
 -- what a value of the program is: a number of its width, or a text in UTF-8, with a length that can be spelled
 abbrev pub IsValue : Value → Type 0

@@ -1,5 +1,6 @@
 -- Values and rows as contracts see them.
-use Rattle.std.specs.Prelude.{ℕ, Bool, true, false, List, get_or, map, Option, Some, None}
+use Rattle.std.specs.Prelude.{◌≡◌, ℕ, Bool, true, false, List, get_or, map, Option, Some, None}
+use Rattle.std.specs.Borrow.{Bor}
 use Rattle.ic_row.specs.declared.value.Value.{Value}
 use Rattle.ic_row.specs.declared.value.Value.TheVariants.{Null, Int, Wide, Chars}
 use Rattle.ic_row.specs.declared.value.Kind.{Kind}
@@ -12,6 +13,11 @@ Datum = Value
 abbrev pub is_null : Value → Bool
 is_null Null = true
 is_null _ = false
+
+-- the value, if it isn't null
+abbrev pub Presents : Option (Bor Value) → Value → Type 0
+Presents None value = value ≡ Null
+Presents (Some found) value = (found.now ≡ value) × (is_null found.now ≡ false)
 
 -- a null has no kind
 abbrev pub kind_of : Value → Option Kind

@@ -5,7 +5,9 @@
 //! Below: `ic_base` for bytes and texts. Above: chunks, predicates, plans and every operator.
 #![tactic(auto)]
 
+mod hash;
 mod laws;
+mod order;
 mod reading;
 mod row;
 mod rows;
@@ -13,9 +15,17 @@ mod stop;
 mod value;
 mod writing;
 
-pub use laws::{begins_alone, has_one_spelling, is_prefix_free, reads_what_is_spelled};
+pub use hash::segment_of;
+pub use laws::{
+    begins_alone, has_one_spelling, hashes_by_key, is_prefix_free, orders_rows,
+    reads_what_is_spelled,
+};
+pub use order::{Key, compare, compare_values};
 pub use reading::{RowNo, read_row};
 pub use row::Row;
 pub use rows::Rows;
 pub use value::{Kind, Value};
 pub use writing::spell;
+
+#[cfg(test)]
+mod tests;

@@ -20,6 +20,7 @@ impl Model for Row {
 
 impl Row {
     ghost use Rattle.std.specs.Prelude.{◌≡◌, ◌↔◌, length, IfOk, IsTrue};
+    ghost use Rattle.ic_row.specs.Values.{column, Presents};
 
     /// Takes no memory.
     pub fn from_vec(values: Vec<Value>) -> Row
@@ -51,6 +52,16 @@ impl Row {
         ensures { IsTrue result ↔ (length self.now ≡ 0) }
     {
         self.values.is_empty()
+    }
+
+    /// The value of a column by its position from 0, and `None` where that is null or past the last.
+    pub fn present(&self, place: u32) -> Option<&Value>
+        ensures { Presents result (column self.now place) }
+    {
+        match self.values.get(place as usize) {
+            Some(value) => value.present(),
+            None => None,
+        }
     }
 
     /// The same row again, in memory of its own.

@@ -1,6 +1,6 @@
 // Values and their kinds.
 ghost use Rattle.std.specs.Prelude.{◌≡◌, ◌↔◌, IsTrue, IfOk};
-ghost use Rattle.ic_row.specs.Values.{is_null, kind_of};
+ghost use Rattle.ic_row.specs.Values.{is_null, kind_of, Presents};
 
 use ic_base::Text;
 use std::alloc::{AllocError, Global};
@@ -29,6 +29,16 @@ impl Value {
         ensures { result ≡ is_null self.now }
     {
         matches!(self, Value::Null)
+    }
+
+    /// The value itself, and `None` of a null.
+    pub fn present(&self) -> Option<&Value>
+        ensures { Presents result self.now }
+    {
+        match self {
+            Value::Null => None,
+            _ => Some(self),
+        }
     }
 
     /// Its kind, and `None` of a null.

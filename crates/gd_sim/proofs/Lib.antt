@@ -1,0 +1,12 @@
+pub mod Lists
+pub mod Keys
+pub mod Noting
+pub mod Steps
+pub mod Sending
+pub mod Taking
+pub mod Sound
+pub mod Events
+pub mod Arrivals
+pub mod Whole
+pub mod End
+pub mod Served

@@ -1,0 +1,21 @@
+//! The bytes that come from outside and go there, as traits. No file, no socket and no clock.
+//!
+//! A caller takes a `Source` and a `Sink` by bound. The program hands in the forms over std's reader and writer,
+//! tests those in memory, of which any call can be made to fail. Each object counts its faults, so that an answer
+//! that speaks of a fault has its cause in the count.
+//!
+//! Below: `ic_base`. Above: whatever reads input or writes text.
+#![tactic(auto)]
+
+mod calls;
+mod fails;
+mod sink;
+mod source;
+mod whole;
+mod written;
+
+pub use fails::{Fail, Failed, Fails};
+pub use sink::{MemSink, Sink, StdSink, SureSink};
+pub use source::{MemSource, Source, StdSource, SureSource};
+pub use whole::{ReadNo, read_whole};
+pub use written::write_all;

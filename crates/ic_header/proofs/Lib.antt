@@ -1,0 +1,4 @@
+pub mod Words
+pub mod FlagWords
+pub mod Judging
+pub mod Joining

@@ -1,0 +1,81 @@
+-- The same datagram read from the front, with the first fault that is met.
+use Rattle.std.specs.Prelude.{ℕ, ◌-◌, ◌*◌, ◌%◌, ℤ, List, length, take, drop, Bool, not, ◌&&◌, ◌==◌, nat_lt, nat_le, if◌then◌else◌, Option, Some, None, Result, Ok, Err}
+use Rattle.std.specs.Int.{w32, from_be_bytes, cast_signed}
+use Rattle.std.specs.Borrow.{Bor}
+use Rattle.ic_header.specs.declared.header.Header.{Header}
+use Rattle.ic_header.specs.declared.fault.HeaderFault.{HeaderFault}
+use Rattle.ic_header.specs.declared.fault.HeaderFault.TheVariants as fault
+use Rattle.ic_header.specs.declared.flags.Flags.{Flags}
+use Rattle.ic_header.specs.declared.flags.Flags.TheVariants.{Rows, LastRows, Query, Ack, Stop, Nak, Disorder, Duplicate}
+
+-- the word at a place, from 0: four bytes, the greatest first
+unfoldable pub word_at : List ℕ → ℕ → ℕ
+word_at bytes place = from_be_bytes w32 (take 4 (drop (4 * place) bytes))
+
+-- the content id at a place
+unfoldable pub content_at : List ℕ → ℕ → ℤ
+content_at bytes place = cast_signed w32 (word_at bytes place)
+
+-- the kind that a word names, if it names one
+unfoldable pub flags_of : ℕ → Option Flags
+flags_of n =
+    if n == 0 then Some Rows else
+    (if n == 8 then Some LastRows else
+    (if n == 128 then Some Query else
+    (if n == 3 then Some Ack else
+    (if n == 5 then Some Stop else
+    (if n == 17 then Some Nak else
+    (if n == 33 then Some Disorder else
+    (if n == 65 then Some Duplicate else None)))))))
+
+-- whether the kind may have a body of n bytes
+abbrev pub allows_body : Flags → ℕ → Bool
+allows_body Rows n = nat_le 4 n
+allows_body LastRows n = nat_le 4 n
+allows_body Query n = n == 0
+allows_body Ack n = n == 0
+allows_body Stop n = n == 0
+allows_body Nak n = n == 0
+allows_body Disorder n = not (n == 0) && (n % 4 == 0)
+allows_body Duplicate n = n == 0
+
+-- the header whose words these are, the crc aside
+unfoldable pub header_at : List ℕ → Flags → Header
+header_at bytes flags = record {
+  motion = word_at bytes 0;
+  src_pid = word_at bytes 1;
+  src_port = word_at bytes 2;
+  dst_pid = word_at bytes 3;
+  dst_port = word_at bytes 4;
+  session = word_at bytes 5;
+  query = word_at bytes 6;
+  recv_slice = word_at bytes 7;
+  send_slice = word_at bytes 8;
+  src_content = content_at bytes 9;
+  dst_content = content_at bytes 10;
+  flags = flags;
+  len = word_at bytes 13;
+  seq = word_at bytes 14;
+  extra = word_at bytes 15;
+}
+
+-- whether the length told is that of the bytes, and the kind may have the body behind 64 of them
+unfoldable pub len_fits : List ℕ → Flags → Bool
+len_fits bytes flags = (word_at bytes 13 == length bytes) && allows_body flags (length bytes - 64)
+
+-- the rest of reading, once the kind is known
+abbrev pub read_with : List ℕ → Option Flags → Result (Header × List ℕ) HeaderFault
+read_with bytes None = Err fault.Flags
+read_with bytes (Some flags) =
+    if len_fits bytes flags then Ok (header_at bytes flags, drop 64 bytes) else Err fault.Len
+
+-- the header and the body of a datagram
+unfoldable pub read_header : List ℕ → Result (Header × List ℕ) HeaderFault
+read_header bytes =
+    if nat_lt (length bytes) 64 then Err fault.Short else
+    (if word_at bytes 11 == 0 then read_with bytes (flags_of (word_at bytes 12)) else Err fault.Crc)
+
+-- what was returned, without where the body lies
+abbrev pub seen : Result (Header × Bor (List ℕ)) HeaderFault → Result (Header × List ℕ) HeaderFault
+seen (Ok r) = Ok (r.0, r.1.now)
+seen (Err e) = Err e
