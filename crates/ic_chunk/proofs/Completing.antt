@@ -1,5 +1,5 @@
 -- A front of a stream is read as what it is.
-use Rattle.std.proofs.Common.{◌≡◌, ◌≢◌, ℕ, ◌+◌, ◌<◌, List, [], ◌∷◌, ◌++◌, length, map, Bool, true, false, not, cond, Option, Some, None, Result, Ok, Err, refl, ap, sym, ◌∙◌, subst, arith, append_assoc, append-nil, length-append}
+use Rattle.std.proofs.Common.{◌≡◌, ◌≢◌, ℕ, ◌<◌, List, [], ◌∷◌, ◌++◌, length, map, Bool, true, false, not, cond, Option, Some, None, Result, Ok, refl, ap, sym, ◌∙◌, subst, arith, append_assoc, append-nil, length-append}
 use Rattle.std.specs.Option.{option_and_then}
 use Rattle.std.specs.List.{AllByRecursion, AllZip}
 use Rattle.ic_row.specs.declared.value.Value.{Value}
@@ -7,13 +7,13 @@ use Rattle.ic_row.specs.Spelling.{Spells}
 use Rattle.ic_row.specs.Reading.{read_row_of}
 use Rattle.ic_chunk.specs.declared.chunk.ChunkKind.{ChunkKind}
 use Rattle.ic_chunk.specs.declared.chunk.ChunkKind.TheVariants.{Whole, Start, Middle, End, EndOfStream, Empty}
-use Rattle.ic_chunk.specs.Chunks.{Chunk, IsChunk, end_of_stream, joined}
+use Rattle.ic_chunk.specs.Chunks.{Chunk, end_of_stream, joined}
 use Rattle.ic_chunk.specs.Reading.{Standing, Step, is_nil, may_stand, goes, ends, does, goes_on, behind, run, fresh}
 use Rattle.ic_chunk.specs.Assembly.{IsPart, is_empty, without_empty, IsTail, IsGroup, AreMiddles, IsPending, together, ending, IsFront}
 use Rattle.ic_chunk.proofs.Lists.{all_back, all_front}
 use Rattle.ic_chunk.proofs.Growing.{guarded, ends_with, filled, all-without_empty}
 use Rattle.ic_chunk.proofs.RowTexts.{read_again}
-use Rattle.ic_chunk.proofs.Running.{behind-nil, behind-behind, run-cons, run-append}
+use Rattle.ic_chunk.proofs.Running.{behind-nil, run-cons, run-append}
 
 abbrev open_at : List ℕ → Standing
 open_at rest = record { rest = rest; ended = false }

@@ -1,16 +1,15 @@
 -- What rows are cut into assembles to these rows.
-use Rattle.std.proofs.Common.{◌≡◌, ℕ, zero, suc, ◌+◌, ◌-◌, ◌<◌, ◌≤◌, ◌^◌, List, [], ◌∷◌, ◌++◌, length, take, drop, map, Bool, true, nat_lt, refl, ap, sym, ◌∙◌, subst, inl, inr, arith, append_assoc, append-nil, length-append, length-take, length-drop}
+use Rattle.std.proofs.Common.{◌≡◌, ℕ, zero, suc, ◌<◌, ◌≤◌, ◌^◌, List, [], ◌∷◌, ◌++◌, length, take, drop, map, true, nat_lt, refl, ap, sym, ◌∙◌, subst, inl, inr, arith, append-nil, length-take, length-drop}
 use Rattle.std.specs.List.{AllByRecursion, AllZip, flat_map}
 use Rattle.std.proofs.lemmas.Bool.{cases_lt}
 use Rattle.std.proofs.lemmas.Bool.Decides.{nat_tests}
 use Rattle.std.proofs.lemmas.List.{nil_from_length, take-append-drop}
 use Rattle.ic_row.specs.declared.value.Value.{Value}
 use Rattle.ic_row.specs.Spelling.{Spells, value_spelling, spelling_of}
-use Rattle.ic_chunk.specs.declared.chunk.ChunkKind.{ChunkKind}
-use Rattle.ic_chunk.specs.declared.chunk.ChunkKind.TheVariants.{Whole, Start, Middle, End}
-use Rattle.ic_chunk.specs.Chunks.{Chunk, IsChunk, payload_of, joined}
+use Rattle.ic_chunk.specs.declared.chunk.ChunkKind.TheVariants.{Start, Middle}
+use Rattle.ic_chunk.specs.Chunks.{Chunk, joined}
 use Rattle.ic_chunk.specs.Cutting.{room_in, bodies_of, tail_of, group_of, chunks_of}
-use Rattle.ic_chunk.specs.Assembly.{IsPart, without_empty, IsTail, IsGroup, together, ending, IsFront, Assembles}
+use Rattle.ic_chunk.specs.Assembly.{IsPart, without_empty, IsTail, IsGroup, together}
 use Rattle.ic_chunk.specs.Laws.{CutAssembles}
 use Rattle.ic_chunk.proofs.Lists.{all_both}
 use Rattle.ic_chunk.proofs.CuttingLemmas.{bodies_of-nil, bodies_of-more}

@@ -1,11 +1,10 @@
 -- What is left to cut, one chunk on and at the end.
-use Rattle.std.proofs.Common.{◌≡◌, ℕ, zero, suc, ◌+◌, ◌-◌, ◌*◌, ◌/◌, ◌%◌, ◌<◌, ◌≤◌, List, [], ◌∷◌, length, take, drop, min, Bool, true, false, cond, ◌==◌, eq-eqb, inl, inr, refl, ap, sym, ◌∙◌, arith, length-drop, length-take}
+use Rattle.std.proofs.Common.{◌≡◌, ℕ, suc, ◌+◌, ◌-◌, ◌*◌, ◌/◌, ◌%◌, ◌<◌, ◌≤◌, List, [], ◌∷◌, length, take, drop, min, true, false, cond, ◌==◌, eq-eqb, inl, inr, refl, ap, sym, ◌∙◌, arith, length-drop}
 use Rattle.std.proofs.lemmas.Nat.{div-mul-add, div-add-mod'}
 use Rattle.std.proofs.Math.Nat.{div-eq_of_lt}
 use Rattle.std.proofs.lemmas.Bool.{cases_lt}
 use Rattle.std.proofs.lemmas.Bool.Decides.{nat_tests}
-use Rattle.std.proofs.lemmas.List.{drop-drop, take-take, take_all, drop_all, nil_from_length}
-use Rattle.ic_chunk.specs.Chunks.{Chunk}
+use Rattle.std.proofs.lemmas.List.{drop-drop, take_all, drop_all, nil_from_length}
 use Rattle.ic_chunk.specs.Cutting.{pieces, count_of, bodies_of, tail_of, group_of, left_of, kind_of}
 
 one_more : (x room : ℕ) → 0 < room → (x + room) / room ≡ suc (x / room)

@@ -1,5 +1,5 @@
 -- A payload goes on with those before it, or its first chunk that doesn't is known.
-use Rattle.std.proofs.Common.{◌≡◌, ◌≢◌, ℕ, List, [], ◌∷◌, ◌++◌, length, map, Bool, Option, Some, None, refl, ap, sym, ◌∙◌, subst, append_assoc, append-nil}
+use Rattle.std.proofs.Common.{◌≡◌, ◌≢◌, ℕ, List, [], ◌∷◌, ◌++◌, length, map, Bool, Some, None, refl, ap, sym, ◌∙◌, subst, append_assoc, append-nil}
 use Rattle.std.proofs.lemmas.List.{map-append}
 use Rattle.std.proofs.lemmas.List.Concat.{flat_map-append}
 use Rattle.std.specs.List.{AllByRecursion}
@@ -8,7 +8,7 @@ use Rattle.ic_chunk.specs.Chunks.{Chunk, IsChunk, spelled, payload_of}
 use Rattle.ic_chunk.specs.Reading.{Standing, Step, chunk_at, goes_on, run, fresh}
 use Rattle.ic_chunk.specs.Assembly.{together, IsFront, Assembles, IsStream, IsFaultAt}
 use Rattle.ic_chunk.specs.Joining.{IsStuck}
-use Rattle.ic_chunk.proofs.Lists.{all_back, all_by, together-append, together-push}
+use Rattle.ic_chunk.proofs.Lists.{all_back, all_by, together-push}
 use Rattle.ic_chunk.specs.Seen.{IsBytes}
 use Rattle.ic_chunk.proofs.ReadingLemmas.{chunk_at-spelled, some_same}
 use Rattle.ic_chunk.proofs.Running.{IsRead, grown_many, halves, first_of_run}

@@ -1,11 +1,10 @@
 -- The first chunks of a stream are the front of a stream.
-use Rattle.std.proofs.Common.{◌≡◌, ◌≢◌, ℕ, List, [], ◌∷◌, ◌++◌, ◌⊎◌, map, Bool, true, false, refl, ap, sym, ◌∙◌, subst, inl, inr, append_assoc, append-nil}
-use Rattle.std.proofs.lemmas.List.{map-append}
+use Rattle.std.proofs.Common.{◌≡◌, ℕ, List, [], ◌∷◌, ◌++◌, ◌⊎◌, map, Bool, true, false, refl, ap, sym, ◌∙◌, subst, inl, inr, append_assoc, append-nil}
 use Rattle.std.specs.List.{AllByRecursion, AllZip}
 use Rattle.ic_row.specs.declared.value.Value.{Value}
 use Rattle.ic_row.specs.Spelling.{Spells}
 use Rattle.ic_chunk.specs.Chunks.{Chunk, payload_of, end_of_stream, joined}
-use Rattle.ic_chunk.specs.Assembly.{IsPart, without_empty, IsTail, IsGroup, AreMiddles, IsPending, together, ending, IsFront, Assembles, IsStream}
+use Rattle.ic_chunk.specs.Assembly.{IsPart, without_empty, IsTail, IsGroup, AreMiddles, IsPending, together, IsFront, IsStream}
 use Rattle.ic_chunk.specs.Laws.{FrontAssembles}
 use Rattle.ic_chunk.proofs.Lists.{all_front, together-append}
 use Rattle.ic_chunk.proofs.Growing.{without_empty-append}

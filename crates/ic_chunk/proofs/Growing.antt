@@ -1,7 +1,7 @@
 -- The front of a stream, one chunk on.
-use Rattle.std.proofs.Common.{◌≡◌, ◌≢◌, ℕ, ◌+◌, ◌<◌, List, [], ◌∷◌, ◌++◌, length, map, Bool, true, false, not, cond, eqb-true, Option, Some, None, Result, Ok, Err, refl, ap, sym, ◌∙◌, subst, arith, append_assoc, append-nil, length-append}
+use Rattle.std.proofs.Common.{◌≡◌, ◌≢◌, ℕ, ◌<◌, List, [], ◌∷◌, ◌++◌, length, map, Bool, true, false, not, cond, eqb-true, Option, Some, None, Result, Ok, Err, refl, ap, sym, ◌∙◌, subst, arith, append_assoc, append-nil, length-append}
 use Rattle.std.proofs.lemmas.List.{map-append, nil_from_length}
-use Rattle.std.specs.List.{AllByRecursion, AllZip, flat_map}
+use Rattle.std.specs.List.{AllByRecursion, AllZip}
 use Rattle.std.proofs.lemmas.List.Concat.{flat_map-append}
 use Rattle.std.proofs.lemmas.Bool.{ltb-true}
 use Rattle.ic_row.specs.declared.value.Value.{Value}
@@ -10,9 +10,9 @@ use Rattle.ic_row.specs.Reading.{read_row_of}
 use Rattle.ic_chunk.specs.declared.chunk.ChunkKind.{ChunkKind}
 use Rattle.ic_chunk.specs.declared.chunk.ChunkKind.TheVariants.{Whole, Start, Middle, End, EndOfStream, Empty}
 use Rattle.ic_chunk.specs.Chunks.{Chunk, IsChunk, allows, end_of_stream, body_of, joined}
-use Rattle.ic_chunk.specs.Reading.{Standing, Step, is_nil, may_stand, goes, ends, does, goes_on}
-use Rattle.ic_chunk.specs.Assembly.{IsPart, without_empty, is_empty, IsTail, IsGroup, AreMiddles, IsPending, together, ending, IsFront}
-use Rattle.ic_chunk.proofs.Lists.{all_both, all_front, all_back, zip_both, together-push}
+use Rattle.ic_chunk.specs.Reading.{Step, is_nil, may_stand, goes, ends, does, goes_on}
+use Rattle.ic_chunk.specs.Assembly.{IsPart, without_empty, is_empty, IsTail, IsGroup, AreMiddles, IsPending, together, IsFront}
+use Rattle.ic_chunk.proofs.Lists.{all_both, all_back, zip_both, together-push}
 use Rattle.ic_chunk.specs.Seen.{IsBytes}
 use Rattle.ic_chunk.proofs.ReadingLemmas.{IsBytes-append}
 use Rattle.ic_chunk.proofs.RowTexts.{read_is}

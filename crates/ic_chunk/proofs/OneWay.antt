@@ -1,6 +1,5 @@
 -- Payloads assemble in one way at most.
-use Rattle.std.proofs.Common.{◌≡◌, List, map, Some, ap, sym, ◌∙◌}
-use Rattle.ic_chunk.specs.Chunks.{Chunk, payload_of}
+use Rattle.std.proofs.Common.{◌≡◌, ap, sym, ◌∙◌}
 use Rattle.ic_chunk.specs.Reading.{Step, run, fresh}
 use Rattle.ic_chunk.specs.Assembly.{together}
 use Rattle.ic_chunk.specs.Laws.{OneAssembly}

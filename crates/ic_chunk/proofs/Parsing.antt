@@ -1,9 +1,8 @@
 -- Payloads are chunks in one way at most.
-use Rattle.std.proofs.Common.{◌≡◌, ◌≢◌, ℕ, ◌+◌, List, [], ◌∷◌, ◌++◌, length, map, Bool, true, false, Option, Some, None, refl, ap, sym, ◌∙◌, subst, arith, append_assoc, append-nil, length-append}
-use Rattle.std.specs.List.{AllByRecursion, flat_map}
+use Rattle.std.proofs.Common.{◌≡◌, ℕ, List, [], ◌∷◌, ◌++◌, length, map, Bool, true, false, Some, refl, ap, sym, ◌∙◌, subst, arith, append_assoc, append-nil, length-append}
+use Rattle.std.specs.List.{AllByRecursion}
 use Rattle.ic_row.specs.declared.value.Value.{Value}
-use Rattle.ic_chunk.specs.declared.chunk.ChunkKind.TheVariants.{EndOfStream}
-use Rattle.ic_chunk.specs.Chunks.{Chunk, IsChunk, spelled, payload_of, end_of_stream}
+use Rattle.ic_chunk.specs.Chunks.{Chunk, IsChunk, spelled, payload_of}
 use Rattle.ic_chunk.specs.Reading.{chunk_at}
 use Rattle.ic_chunk.specs.Assembly.{IsPart, together, ending, IsFront}
 use Rattle.ic_chunk.proofs.Lists.{all_both, all_front, all_back, all_by}

@@ -1,5 +1,5 @@
 -- A row that is read is the one that is spelled.
-use Rattle.std.proofs.Common.{◌≡◌, ℕ, List, Result, Ok, Err, sym, ap, ◌∙◌}
+use Rattle.std.proofs.Common.{◌≡◌, ℕ, List, Result, Ok, Err, ap, ◌∙◌}
 use Rattle.ic_row.specs.declared.value.Value.{Value}
 use Rattle.ic_row.specs.Spelling.{Spells}
 use Rattle.ic_row.specs.Reading.{row_at, placed, read_row_of}

@@ -1,5 +1,5 @@
 -- Many chunks on.
-use Rattle.std.proofs.Common.{◌≡◌, ◌≢◌, ℕ, ◌+◌, ◌<◌, List, [], ◌∷◌, ◌++◌, length, map, Bool, true, false, not, cond, Option, Some, None, Result, Ok, Err, refl, ap, sym, ◌∙◌, subst, arith, append_assoc, append-nil, length-append}
+use Rattle.std.proofs.Common.{◌≡◌, ℕ, List, [], ◌∷◌, ◌++◌, Bool, true, false, Option, Some, None, refl, ap, sym, ◌∙◌, subst, arith, append_assoc, append-nil}
 use Rattle.std.specs.Option.{option_and_then}
 use Rattle.std.specs.List.{AllByRecursion}
 use Rattle.ic_row.specs.declared.value.Value.{Value}
@@ -7,7 +7,7 @@ use Rattle.ic_row.specs.Reading.{read_row_of}
 use Rattle.ic_chunk.specs.declared.chunk.ChunkKind.{ChunkKind}
 use Rattle.ic_chunk.specs.declared.chunk.ChunkKind.TheVariants.{Whole, Start, Middle, End, EndOfStream, Empty}
 use Rattle.ic_chunk.specs.Chunks.{Chunk, IsChunk}
-use Rattle.ic_chunk.specs.Reading.{Standing, Step, is_nil, may_stand, goes, ends, does, goes_on, behind, run}
+use Rattle.ic_chunk.specs.Reading.{Standing, Step, may_stand, does, goes_on, behind, run}
 use Rattle.ic_chunk.specs.Assembly.{IsFront}
 use Rattle.ic_chunk.specs.Seen.{IsBytes}
 use Rattle.ic_chunk.proofs.ReadingLemmas.{IsBytes-append, and_then_some}

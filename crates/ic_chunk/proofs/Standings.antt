@@ -1,9 +1,9 @@
 -- What a joiner keeps, one payload on.
-use Rattle.std.proofs.Common.{◌≡◌, ◌≢◌, ℕ, zero, suc, ◌<◌, arith, List, [], ◌∷◌, ◌++◌, length, get_or, map, Bool, true, false, Option, Some, None, IsSome, refl, ap, sym, ◌∙◌, subst, append_assoc, append-nil}
+use Rattle.std.proofs.Common.{◌≡◌, ℕ, zero, suc, arith, List, [], ◌∷◌, ◌++◌, Bool, false, Option, Some, None, IsSome, refl, sym, ◌∙◌, subst, append_assoc, append-nil}
 use Rattle.std.specs.List.{AllByRecursion}
 use Rattle.ic_row.specs.declared.value.Value.{Value}
 use Rattle.ic_chunk.specs.Chunks.{Chunk, IsChunk, spelled, payload_of}
-use Rattle.ic_chunk.specs.Reading.{Standing, run}
+use Rattle.ic_chunk.specs.Reading.{Standing}
 use Rattle.ic_chunk.specs.Assembly.{Assembles, IsStream, IsFaultAt}
 use Rattle.ic_chunk.specs.Joining.{Held, Stands, Came, Stops, standing_at}
 use Rattle.ic_chunk.specs.Seen.{IsBytes}

@@ -1,5 +1,5 @@
 -- A chunk is taken or refused as the stream goes on.
-use Rattle.std.proofs.Common.{◌≡◌, ◌≢◌, ℕ, suc, ◌+◌, ◌*◌, ◌++◌, append_assoc, append-nil, length-append, ◌≤◌, ◌<◌, ◌-◌, List, [], ◌∷◌, length, drop, Bool, true, false, cond, ◌==◌, eq-eqb, Option, Some, None, refl, ap, sym, ◌∙◌, subst, inl, inr, arith, length-drop}
+use Rattle.std.proofs.Common.{◌≡◌, ◌≢◌, ℕ, suc, ◌+◌, ◌++◌, append_assoc, append-nil, length-append, ◌≤◌, ◌<◌, List, [], ◌∷◌, length, drop, Bool, true, false, cond, ◌==◌, eq-eqb, Option, Some, None, refl, ap, sym, ◌∙◌, subst, inl, inr, arith, length-drop}
 use Rattle.std.proofs.lemmas.Bool.{cases_lt}
 use Rattle.std.proofs.lemmas.Bool.Decides.{nat_tests}
 use Rattle.std.proofs.lemmas.List.{drop_all, length_push}
@@ -7,11 +7,11 @@ use Rattle.ic_row.specs.declared.value.Value.{Value}
 use Rattle.ic_chunk.specs.declared.chunk.ChunkKind.{ChunkKind}
 use Rattle.std.proofs.lemmas.List.Concat.{flat_map-append}
 use Rattle.ic_chunk.specs.Chunks.{Chunk, IsChunk, spelled, payload_of}
-use Rattle.ic_chunk.specs.Reading.{Standing, Step, chunk_at, is_nil, may_stand, does, goes_on, behind, run}
+use Rattle.ic_chunk.specs.Reading.{Standing, Step, chunk_at, is_nil, may_stand, does, goes_on, behind}
 use Rattle.ic_chunk.specs.Joining.{standing_at, Took, IsStuck, Came, Stops}
 use Rattle.ic_chunk.proofs.Lists.{all_both}
 use Rattle.ic_chunk.specs.Seen.{IsBytes}
-use Rattle.ic_chunk.proofs.ReadingLemmas.{IsBytes-drop, chunk_at-some, length-spelled}
+use Rattle.ic_chunk.proofs.ReadingLemmas.{chunk_at-some, length-spelled}
 use Rattle.ic_chunk.proofs.Running.{run-append, run-cons}
 
 is_nil-from : (bytes : List ℕ) → 0 < length bytes → is_nil bytes ≡ false

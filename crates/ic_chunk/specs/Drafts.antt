@@ -1,8 +1,8 @@
 -- A payload while it is read.
-use Rattle.std.specs.Prelude.{◌≡◌, ℕ, List, [], drop, Bool, Option}
+use Rattle.std.specs.Prelude.{ℕ, List, [], drop, Bool, Option}
 use Rattle.ic_chunk.specs.declared.draft.Draft.{Draft}
 use Rattle.ic_chunk.specs.Reading.{Standing, Step}
-use Rattle.ic_chunk.specs.Joining.{Keeps, Took, Came, Stops}
+use Rattle.ic_chunk.specs.Joining.{Took, Came}
 
 -- what the stream has come to
 abbrev pub standing : Draft → Standing

@@ -1,5 +1,5 @@
 -- A joiner, and what it was fed.
-use Rattle.std.specs.Prelude.{◌≡◌, ◌≢◌, ℕ, min, length, drop, List, [], ◌∷◌, ◌++◌, Bool, true, false, Option, Some, None, IsSome, Result, Ok, Err}
+use Rattle.std.specs.Prelude.{◌≡◌, ◌≢◌, ℕ, min, length, drop, List, [], ◌++◌, Bool, true, false, Option, Some, None, IsSome, Result, Ok, Err}
 use Rattle.std.specs.List.{AllByRecursion}
 use Rattle.ic_row.specs.declared.value.Value.{Value}
 use Rattle.ic_chunk.specs.declared.joiner.Fed.{Fed}

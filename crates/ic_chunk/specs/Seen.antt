@@ -1,5 +1,5 @@
 -- What was found in memory, without where it lies.
-use Rattle.std.specs.Prelude.{ℕ, ◌<◌, slice_index, List, Option, Some, None}
+use Rattle.std.specs.Prelude.{ℕ, ◌<◌, slice_index, List, Option}
 use Rattle.std.specs.Option.{option_map}
 use Rattle.std.specs.Borrow.{Bor}
 use Rattle.ic_chunk.specs.declared.chunk.ChunkKind.{ChunkKind}

@@ -1,7 +1,7 @@
-use Rattle.std.proofs.Common.{◌≡◌, ◌≢◌, ◌<◌, ◌+◌, ℕ, List, [], ◌++◌, length, Option, Some, None, Bool, true, false, refl, sym, ap, ◌∙◌, subst, arith, append_assoc, append-nil}
+use Rattle.std.proofs.Common.{◌≡◌, ◌≢◌, [], ◌++◌, Some, None, Bool, sym, ap, ◌∙◌, subst, arith, append_assoc, append-nil}
 use Rattle.ic_chunk.specs.Chunks.{Chunk}
-use Rattle.ic_chunk.specs.Reading.{Standing, chunk_at, goes_on}
-use Rattle.ic_chunk.specs.Joining.{standing_at, Keeps, Took, Came, Stops, told}
+use Rattle.ic_chunk.specs.Reading.{chunk_at, goes_on}
+use Rattle.ic_chunk.specs.Joining.{standing_at, Took, told}
 use Rattle.ic_chunk.specs.Seen.{seen}
 use Rattle.ic_chunk.specs.Seen.{IsBytes}
 use Rattle.ic_chunk.proofs.Taking.{came-none, came-more, came-small, chunk_shorter, left_bytes, stops-unread, stops-refused, not_nil_from}

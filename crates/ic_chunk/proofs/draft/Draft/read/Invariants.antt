@@ -1,4 +1,4 @@
-use Rattle.std.proofs.Common.{ℕ, List, length}
+use Rattle.std.proofs.Common.{length}
 use Rattle.ic_chunk.specs.Joining.{standing_at, Keeps, Came}
 use Rattle.ic_chunk.proofs.draft.Draft.read.Given as goal
 

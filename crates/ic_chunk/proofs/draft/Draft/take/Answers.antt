@@ -1,9 +1,7 @@
-use Rattle.std.proofs.Common.{◌≡◌, ◌==◌, ◌∙◌, sym, ap, subst, drop, true, false, not, Bool, Option, List, length, vec_len, arith}
+use Rattle.std.proofs.Common.{◌≡◌, ◌==◌, ◌∙◌, sym, ap, subst, drop, true, false, Option, arith}
 use Rattle.std.specs.Result.{IfOk}
-use Rattle.ic_row.specs.declared.value.Value.{Value}
-use Rattle.ic_chunk.specs.Chunks.{Chunk}
-use Rattle.ic_chunk.specs.Reading.{Step, is_nil, may_stand, does, goes_on}
-use Rattle.ic_chunk.specs.Joining.{standing_at, Keeps, Took}
+use Rattle.ic_chunk.specs.Reading.{Step, is_nil, may_stand}
+use Rattle.ic_chunk.specs.Joining.{standing_at, Took}
 use Rattle.ic_chunk.proofs.Taking.{is_nil-drop, refused_ended, refused_there, goes_on-allowed}
 use Rattle.ic_chunk.proofs.draft.Draft.take.Goals as goal
 use Rattle.ic_chunk.proofs.draft.Draft.take.Goals.{then-self-via-then-self, then-self-via-else-self+then-not-may_stand}

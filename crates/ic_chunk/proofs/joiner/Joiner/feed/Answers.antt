@@ -1,7 +1,7 @@
 use Rattle.std.proofs.Common.{◌≡◌, ℕ, Err, List, [], ◌∷◌, ◌++◌, Bool, Option, Some, None, IsSome, Vec, Global, refl, sym, ap, ◌∙◌, subst, arith}
 use Rattle.ic_row.specs.declared.value.Value.{Value}
 use Rattle.ic_chunk.specs.Assembly.{Assembles, IsStream, IsFaultAt}
-use Rattle.ic_chunk.specs.Joining.{Held, Stands, Came, Stops, standing_at, told}
+use Rattle.ic_chunk.specs.Joining.{Held, Stands, standing_at, told}
 use Rattle.ic_chunk.specs.Seen.{IsBytes}
 use Rattle.ic_chunk.proofs.Standings.{feed_ok, feed_fault, stands-faulty, not_both}
 use Rattle.ic_chunk.proofs.joiner.Joiner.feed.Goals as goal

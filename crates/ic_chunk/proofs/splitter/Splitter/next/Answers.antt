@@ -1,7 +1,7 @@
-use Rattle.std.proofs.Common.{◌≡◌, ℕ, ◌+◌, ◌==◌, ◌<◌, refl, List, [], ◌∷◌, ◌++◌, length, take, drop, min, true, eqb-true, ap, sym, ◌∙◌, arith}
+use Rattle.std.proofs.Common.{◌≡◌, ◌==◌, ◌<◌, refl, [], ◌++◌, length, take, drop, min, eqb-true, ap, sym, ◌∙◌, arith}
 use Rattle.std.proofs.lemmas.Bool.{eqb-false}
 use Rattle.ic_chunk.specs.Chunks.{Chunk, spelled}
-use Rattle.ic_chunk.specs.Cutting.{kind_of, left_of}
+use Rattle.ic_chunk.specs.Cutting.{kind_of}
 use Rattle.ic_chunk.proofs.CuttingLemmas.{left_of-more, left_of-nil}
 use Rattle.ic_chunk.proofs.splitter.Splitter.next.Goals as goal
 
