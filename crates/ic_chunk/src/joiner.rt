@@ -62,7 +62,7 @@ impl Joiner {
         ensures ok { IfOk result (λ fed. (payloads : List (List ℕ)) (rows : List (List Datum))
             → Stands self.old payloads rows
             → Assembles (payloads ++ payload.now ∷ []) (rows ++ fed.rows) self.new.rest fed.ended) }
-        ensures ended { IfOk result (λ fed. self.new ≡ record self.new { ended = fed.ended; fault = None }) }
+        ensures ended { IfOk result (λ fed. (self.new.ended ≡ fed.ended) × IsNone self.new.fault) }
 
         // They are the front of no stream, and this chunk of the payload is the first that doesn't go on with it.
         ensures fault { (k : ℕ) → IsErrOf result (FeedNo.ChunkFault k) → IsNone self.old.fault

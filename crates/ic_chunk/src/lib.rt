@@ -1,11 +1,11 @@
-//! Rows cut into tuple chunks, and payloads of chunks joined to rows again. No packet header, no connection and no
-//! clock.
+//! Rows cut into tuple chunks, and payloads of chunks joined to rows again, with no packet header, no connection and
+//! no clock.
 //!
 //! A sender drives a [`Splitter`] for each row: `next` appends one chunk to a buffer, until it says that none is left.
 //! A receiver keeps one [`Joiner`] for each sender, and feeds it the payloads in the order of their packets: `feed`
 //! gives the rows that are whole now.
 //!
-//! Below: `ic_row`, `ic_base`. Above: `ic_law`, `ic_motion`, `pl_mean`.
+//! Below: `ic_row`, `ic_base`. Above: whoever sends or receives rows.
 #![tactic(auto)]
 
 mod chunk;

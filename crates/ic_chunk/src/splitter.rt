@@ -7,6 +7,10 @@ use ic_base::Bytes;
 use std::alloc::AllocError;
 use std::marker::Model;
 
+/// Bytes of a packet that no body can have: its header of 64, the chunk's head of 4, and 4 that are kept for the end of
+/// stream.
+const TAKEN: usize = 72;
+
 /// A row's spelling being cut into chunks, seen as the list of the chunks that are still to come. It shares the
 /// spelling's bytes and copies each of them once, into the buffer that it is given.
 #[derive(Drop)]
@@ -43,7 +47,7 @@ impl Splitter {
         Splitter {
             row,
             done: 0,
-            room: packet as usize - 72,
+            room: packet as usize - TAKEN,
         }
     }
 
@@ -60,7 +64,7 @@ impl Splitter {
             return Ok(false);
         }
         let size = left.len().min(self.room);
-        let kind = kind_at(self.done == 0, size == left.len());
+        let kind = kind_of(self.done == 0, size == left.len());
         let (body, _) = left.split_at(size);
         push_chunk(out, kind, body)?;
         self.done += size;
@@ -69,7 +73,7 @@ impl Splitter {
 }
 
 /// The kind of a chunk with a row's first bytes, its last ones, both or neither.
-fn kind_at(first: bool, last: bool) -> ChunkKind
+fn kind_of(first: bool, last: bool) -> ChunkKind
     ensures { result ≡ kind_of first last }
 {
     match (first, last) {

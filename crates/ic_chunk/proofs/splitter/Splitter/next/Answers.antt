@@ -19,12 +19,12 @@ returns-clause-chunk c =
     let left : c.split_at.result.1.now ≡ drop s.done s.row = c.split_at.ensures.back ∙ ap (drop s.done) c.as_slice.ensures in
     let size = c.min-size.result in
     let body : c.split_at-2.result.0.now ≡ take size (drop s.done s.row) = c.split_at-2.ensures.front ∙ ap (take size) left in
-    let kind : c.kind_at-kind.result ≡ kind_of (s.done == 0) (size == length (drop s.done s.row)) = c.kind_at-kind.ensures ∙ ap (λ l. kind_of (s.done == 0) (size == length l)) left in
+    let kind : c.kind_of-kind.result ≡ kind_of (s.done == 0) (size == length (drop s.done s.row)) = c.kind_of-kind.ensures ∙ ap (λ l. kind_of (s.done == 0) (size == length l)) left in
     let is : size ≡ min (length (drop s.done s.row)) s.room = c.min-size.ensures ∙ ap (λ l. min (length l) s.room) left in
     let some = eqb-false (length c.split_at.result.1.now) 0 (sym c.if-is_empty.ensures) in
     let filled : 0 < length (drop s.done s.row) = omega (arith, some, ap length left) in
     let next : Chunk = record { kind = kind_of (s.done == 0) (size == length (drop s.done s.row)); body = take size (drop s.done s.row) } in
-    let given : Chunk = record { kind = c.kind_at-kind.result; body = c.split_at-2.result.0.now } in
+    let given : Chunk = record { kind = c.kind_of-kind.result; body = c.split_at-2.result.0.now } in
     let same : given ≡ next = cc in
     let more = left_of-more s.room s.row s.done size c.self.invariant.0 filled is in
     λ _. (next, sym c.self.view_is ∙ more, c.in_ok-push_chunk.ensures.ok ∙ ap (λ x. c.args.out.now.items ++ spelled x) same)
