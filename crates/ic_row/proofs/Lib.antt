@@ -1,0 +1,12 @@
+pub mod Texts
+pub mod Loop
+pub mod Left
+pub mod Wide
+pub mod Fields
+pub mod ValueLemmas
+pub mod RowLemmas
+pub mod FaultLemmas
+pub mod Answered
+pub mod OrderLemmas
+pub mod TotalLemmas
+pub mod HashLemmas
