@@ -1,0 +1,14 @@
+pub mod CuttingLemmas
+pub mod ReadingLemmas
+pub mod Lists
+pub mod RowTexts
+pub mod Growing
+pub mod Running
+pub mod Completing
+pub mod Parsing
+pub mod Feeding
+pub mod Taking
+pub mod Fronts
+pub mod OneWay
+pub mod Standings
+pub mod CutLaws

@@ -1,0 +1,25 @@
+//! Rows cut into tuple chunks, and payloads of chunks joined to rows again, with no packet header, no connection and
+//! no clock.
+//!
+//! A sender drives a [`Splitter`] for each row: `next` appends one chunk to a buffer, until it says that none is left.
+//! A receiver keeps one [`Joiner`] for each sender, and feeds it the payloads in the order of their packets: `feed`
+//! gives the rows that are whole now.
+//!
+//! Below: `ic_row`, `ic_base`. Above: whoever sends or receives rows.
+#![tactic(auto)]
+
+mod chunk;
+mod draft;
+mod fault;
+mod joiner;
+mod laws;
+mod splitter;
+
+pub use chunk::{ChunkKind, push_end_of_stream};
+pub use fault::FeedNo;
+pub use joiner::{Fed, Joiner};
+pub use laws::{cut_assembles, front_assembles, one_assembly};
+pub use splitter::Splitter;
+
+#[cfg(test)]
+mod tests;
