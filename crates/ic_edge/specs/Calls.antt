@@ -1,5 +1,5 @@
 -- The calls of an object in memory, of which some are to fail.
-use Rattle.std.specs.Prelude.{◌≡◌, ℕ, List, Any, None, Ok, Err, Result}
+use Rattle.std.specs.Prelude.{◌≡◌, ℕ, ◌+◌, ◌<◌, List, length, Any, None, Ok, Err, Result}
 use Rattle.ic_edge.specs.Causes.{one_more}
 use Rattle.ic_edge.specs.declared.fails.Fail.{Fail}
 
@@ -40,3 +40,7 @@ pub record Writing : Type 0 where
   pub wrote : List ℕ
   pub room : ℕ
   pub calls : Calls
+
+-- the piece is longer than the room that is left
+abbrev pub HasNoRoom : Writing → List ℕ → Type 0
+HasNoRoom s piece = s.room < length s.wrote + length piece

@@ -19,3 +19,6 @@ pub use sink::{MemSink, Sink, StdSink, SureSink};
 pub use source::{MemSource, Source, StdSource, SureSource};
 pub use whole::{ReadNo, read_whole};
 pub use written::write_all;
+
+#[cfg(test)]
+mod tests;

@@ -4,7 +4,7 @@ ghost use Rattle.std.specs.declared.option.Option.{Option};
 ghost use Rattle.std.specs.Io.{WritesAtMost};
 ghost use Rattle.std.specs.Io.KnownBytes.{WriteAppends};
 ghost use Rattle.ic_edge.specs.Causes.{HasCause, Rose};
-ghost use Rattle.ic_edge.specs.Calls.{no_calls, after_call, IsNextListed};
+ghost use Rattle.ic_edge.specs.Calls.{no_calls, after_call, IsNextListed, HasNoRoom};
 
 use crate::calls::CallCount;
 use crate::fails::{Failed, Fails};
@@ -89,7 +89,7 @@ impl Sink for MemSink {
         ensures bytes { WriteAppends (Some self.old.wrote) (Some self.new.wrote) result piece.now }
         ensures cause { HasCause self.old.calls.failed self.new.calls.failed result }
         ensures listed { IsNextListed self.old.calls → IsErr result }
-        ensures full { OnErr result (IsNextListed self.old.calls ⊎ (self.old.room < length self.old.wrote + length piece.now)) }
+        ensures full { OnErr result (IsNextListed self.old.calls ⊎ HasNoRoom self.old piece.now) }
         ensures calls { self.new.calls ≡ after_call result self.old.calls }
         ensures whole { IfOk result (λ n. n ≡ length piece.now) }
         ensures room { self.old.room ≤ self.new.room }

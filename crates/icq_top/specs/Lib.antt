@@ -1,0 +1,10 @@
+pub mod Steps
+pub mod Words
+pub mod Members
+pub mod Table
+pub mod Document
+pub mod Deal
+pub mod Text
+pub mod Print
+pub mod Outcome
+pub mod Work
