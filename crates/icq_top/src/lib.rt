@@ -17,3 +17,6 @@ mod words;
 
 pub use command::{Ended, Report, refuse, sim_command};
 pub use stop::Stop;
+
+#[cfg(test)]
+mod tests;

@@ -1,0 +1,129 @@
+// Dealing and text.
+use crate::dealing::deal;
+use crate::print::{PrintNo, print_lines};
+use crate::stop::Stop;
+use gd_sim::{Row, Rows, Tally};
+use ic_base::{ConnKey, SegId};
+use ic_edge::{Fail, Fails, MemSink};
+use std::alloc::{AllocError, Global};
+use std::test::Fail as TestFail;
+
+/// A sink whose call with this number, from 1, fails.
+fn sink_failing(alloc: Global, nth: u32) -> Result<MemSink, AllocError> {
+    let fail = Fail { worker: None, nth };
+    MemSink::new(alloc, Fails::from_vec(vec![in alloc; fail]?))
+}
+
+/// A sink that never fails.
+fn sink(alloc: Global) -> Result<MemSink, AllocError> {
+    MemSink::new(alloc, Fails::from_vec(Vec::new(alloc)))
+}
+
+fn row(alloc: Global, values: &[i64]) -> Result<Row, AllocError> {
+    Row::from_vec(alloc, Vec::from_slice(alloc, values)?)
+}
+
+/// Rows of one value, from 0 on.
+fn counting(alloc: Global, count: i64) -> Result<Rows, AllocError> {
+    let mut rows = Rows::new(alloc);
+    for value in 0..count {
+        rows.push(row(alloc, &[value])?)?;
+    }
+    Ok(rows)
+}
+
+#[test]
+fn rows_are_dealt_in_turn(rt: HostRuntime) -> Result<(), TestFail> {
+    let alloc = rt.alloc();
+    let parts = deal(alloc, counting(alloc, 7)?, 3)?;
+    let mut sink = sink(alloc)?;
+    let mut buffer = String::new(alloc);
+    for part in parts.as_slice() {
+        assert_eq!(rt;
+            print_lines(&mut sink, &mut buffer, part.as_slice()),
+            Ok(())
+        );
+        assert!(rt; print_lines(&mut sink, &mut buffer, &[row(alloc, &[])?]).is_ok());
+    }
+    let wanted = "[0]\n[3]\n[6]\n[]\n[1]\n[4]\n[]\n[2]\n[5]\n[]\n";
+    assert_eq!(rt; sink.bytes(), wanted.as_bytes());
+    Ok(())
+}
+
+#[test]
+fn a_row_is_its_values_with_commas_between(rt: HostRuntime) -> Result<(), TestFail> {
+    let alloc = rt.alloc();
+    let mut sink = sink(alloc)?;
+    let mut buffer = String::new(alloc);
+    let rows = vec![in alloc; row(alloc, &[-9223372036854775808, 0, 9223372036854775807])?]?;
+    assert_eq!(rt; print_lines(&mut sink, &mut buffer, &rows), Ok(()));
+    let wanted = "[-9223372036854775808,0,9223372036854775807]\n";
+    assert_eq!(rt; sink.bytes(), wanted.as_bytes());
+    Ok(())
+}
+
+/// What the connection of a gather did.
+fn tally(from: SegId, taken: u64, whole: bool) -> Tally {
+    Tally {
+        key: ConnKey {
+            session: 7,
+            query: 1,
+            motion: 2,
+            from,
+            to: SegId::DISPATCHER,
+        },
+        sent: 1000,
+        taken,
+        packets: 4294967295,
+        resent: 340282366920938463463374607431768211455,
+        whole,
+    }
+}
+
+#[test]
+fn a_tally_is_a_line_of_nine_words(rt: HostRuntime) -> Result<(), TestFail> {
+    let alloc = rt.alloc();
+    let mut sink = sink(alloc)?;
+    let mut buffer = String::new(alloc);
+    let last = SegId::new(63).ok_or("63 is a segment")?;
+    let tallies = [tally(last, 541, false), tally(last, 1000, true)];
+    assert_eq!(rt; print_lines(&mut sink, &mut buffer, &tallies), Ok(()));
+    let wanted = "# 1 2 63 -1 1000 541 4294967295 340282366920938463463374607431768211455 stopped\n\
+                  # 1 2 63 -1 1000 1000 4294967295 340282366920938463463374607431768211455 whole\n";
+    assert_eq!(rt; sink.bytes(), wanted.as_bytes());
+    Ok(())
+}
+
+#[test]
+fn a_write_that_fails_ends_the_text_where_it_stands(rt: HostRuntime) -> Result<(), TestFail> {
+    let alloc = rt.alloc();
+    let mut sink = sink_failing(alloc, 3)?;
+    let mut buffer = String::new(alloc);
+    let rows = counting(alloc, 5)?;
+    assert_eq!(rt;
+        print_lines(&mut sink, &mut buffer, rows.as_slice()),
+        Err(PrintNo::Failed)
+    );
+    assert_eq!(rt; sink.bytes(), b"[0]\n[1]\n".as_slice());
+    Ok(())
+}
+
+#[test]
+fn each_stop_has_its_status_in_its_line(rt: HostRuntime) {
+    let table = [
+        (Stop::Usage, 1, "error 1 usage\n"),
+        (Stop::ReadFault, 4, "error 4 read\n"),
+        (
+            Stop::Unfinished,
+            9,
+            "error 9 unfinished query 1 rounds 100000\n",
+        ),
+        (Stop::Memory, 10, "error 10 memory\n"),
+        (Stop::TooLong, 11, "error 11 input too long\n"),
+        (Stop::NotBuilt, 15, "error 15 not built\n"),
+    ];
+    for (stop, status, line) in table {
+        assert_eq!(rt; stop.status(), status, "at {line}");
+        assert_eq!(rt; stop.line(), line);
+    }
+}
