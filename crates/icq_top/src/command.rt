@@ -20,7 +20,8 @@ use std::alloc::Global;
 /// The most bytes that are read.
 const LIMIT: usize = 67108864;
 
-/// The rounds after which a run is given up: far more than any run needs that loses at most 64 sends.
+/// The rounds after which a run is given up. A sender sends one packet a round, so a segment with 100000 rows or more
+/// isn't done by then.
 const ROUNDS: u64 = 100000;
 
 /// The histories of a run, for whoever wants to read more from them than was printed.
@@ -157,7 +158,8 @@ pub fn sim_command<S: Source, K: Sink>(
     ensures end { result.status ≡ 0 → IsAtEnd (S.left source.new) }
     ensures ended { result.status ≢ 0 → result.ended ≡ None }
 
-    // Each status but 5 comes exactly where the words and the bytes lead to it, 4 where the source failed, 10 freely.
+    // 4 comes only where the source failed, and 10 freely. Each other status but 5 comes exactly where the words and
+    // the bytes lead to it, where the source tells its bytes.
     ensures status { result.status ≢ 5 → HasCauses (map string_bytes words.now) (S.left source.old) (S.count source.old) (S.count source.new) result.status }
     ensures written { result.status ≢ 5 → IsWritten (map string_bytes words.now) (S.left source.old) (K.wrote sink.old) (K.wrote sink.new) result.status }
 

@@ -83,11 +83,34 @@ fn a_refusal_is_one_line(rt: HostRuntime) -> Result<(), TestFail> {
 }
 
 #[test]
-fn a_write_fault_leaves_a_front_of_the_text(rt: HostRuntime) -> Result<(), TestFail> {
-    let (report, sink) = run(rt.alloc(), "sim", EXAMPLE, 0, 2)?;
-    assert_eq!(rt; report.status, 5);
-    assert!(rt; report.ended.is_none());
-    assert_eq!(rt; sink.bytes(), b"[10]\n".as_slice());
+fn a_read_that_fails_is_a_read_fault_whichever_it_is(rt: HostRuntime) -> Result<(), TestFail> {
+    for (read, status) in [(1, 4), (2, 4), (3, 0)] {
+        let (report, _) = run(rt.alloc(), "sim", EXAMPLE, read, 0)?;
+        assert_eq!(rt; report.status, status, "at read {read}");
+    }
+    Ok(())
+}
+
+#[test]
+fn a_write_that_fails_leaves_the_lines_before_it(rt: HostRuntime) -> Result<(), TestFail> {
+    let table = [
+        (1, 5, ""),
+        (2, 5, "[10]\n"),
+        (3, 5, "[10]\n[11]\n"),
+        (4, 5, "[10]\n[11]\n[12]\n"),
+        (5, 5, "[10]\n[11]\n[12]\n[13]\n"),
+        (6, 5, "[10]\n[11]\n[12]\n[13]\n# 1 1 0 -1 2 2 3 0 whole\n"),
+        (
+            7,
+            0,
+            "[10]\n[11]\n[12]\n[13]\n# 1 1 0 -1 2 2 3 0 whole\n# 1 1 1 -1 2 2 3 0 whole\n",
+        ),
+    ];
+    for (write, status, wanted) in table {
+        let (report, sink) = run(rt.alloc(), "sim", EXAMPLE, 0, write)?;
+        assert_eq!(rt; report.status, status, "at write {write}");
+        assert!(rt; sink.bytes() == wanted.as_bytes(), "at write {write}");
+    }
     let (report, sink) = run(rt.alloc(), "run", EXAMPLE, 0, 1)?;
     assert_eq!(rt; report.status, 5);
     assert_eq!(rt; sink.bytes(), b"".as_slice());
