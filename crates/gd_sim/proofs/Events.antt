@@ -1,55 +1,55 @@
 -- Each event of a round goes from a sound state to a later one.
-use Rattle.std.proofs.Common.{◌≡◌, ◌≢◌, ℕ, zero, suc, ◌+◌, ◌-◌, ◌<◌, ◌≤◌, ℤ, pos, List, [], ◌∷◌, ◌++◌, length, take, set, map, Bool, true, false, cond, not, ◌&&◌, ◌==◌, nat_lt, nat_le, Option, Some, None, refl, ap, sym, ◌∙◌, subst, arith, inl, inr, ◌⊎◌, slice_get, length-set}
+use Rattle.std.proofs.Common.{◌≡◌, ℕ, ◌+◌, ◌-◌, ◌<◌, ◌≤◌, pos, List, [], ◌∷◌, ◌++◌, length, take, set, Bool, true, false, not, ◌&&◌, ◌==◌, nat_lt, nat_le, Option, Some, None, refl, ap, sym, ◌∙◌, subst, arith, inl, inr, ◌⊎◌, slice_get, length-set}
 use Rattle.std.proofs.lemmas.Option.{slice_get_within}
 use Rattle.std.proofs.lemmas.Bool.Decides.{eqb_tells, leb_tells}
 use Rattle.std.proofs.lemmas.List.Elements.{Contains-append_cases}
-use Rattle.std.specs.List.{flat_map, Contains}
-use Rattle.std.specs.List.Sorted.{IsPermutation}
+use Rattle.std.specs.List.{Contains}
 use Rattle.gd_sim.specs.declared.conn.Conn.{Conn}
-use Rattle.gd_sim.specs.declared.slip.Slip.{Slip}
-use Rattle.gd_sim.specs.declared.slip.SlipKind.TheVariants.{Got}
+use Rattle.gd_sim.specs.declared.datagram.Datagram.{Datagram}
 use Rattle.gd_sim.specs.declared.history.HubAsk.TheVariants.{Arrive, Tick}
 use Rattle.gd_sim.specs.declared.history.HubReply.TheVariants.{Came, Ticked}
 use Rattle.gd_sim.specs.declared.history.Entry.{Entry}
 use Rattle.gd_sim.specs.Keys.{dispatcher, gather_key, node_of}
-use Rattle.gd_sim.specs.History.{history_at, emits, arrives, emitted_of, slip_in, parcels_of, taken_of, whole_of}
-use Rattle.gd_sim.specs.Rounds.{State, kept, noted, is_ready, is_patient, kind_of, ask_of, packet, sent, ticked, resent, freed, answer_at}
-use Rattle.gd_sim.proofs.Lists.{Contains-nil, Contains-single, Contains-self, flat_map-set_same}
+use Rattle.gd_sim.specs.History.{history_at, emits, arrives, emitted_of, datagram_in, parcels_of, payloads_of, whole_of}
+use Rattle.ic_header.specs.declared.header.Header.{Header}
+use Rattle.gd_sim.specs.Packets.{Fits}
+use Rattle.gd_sim.specs.Rounds.{State, kept, noted, is_ready, ask_of, packet, sent, ticked, resent, freed, answer_at}
+use Rattle.gd_sim.proofs.Lists.{Contains-nil, Contains-single, Contains-self}
 use Rattle.gd_sim.proofs.Noting.{length-noted, history-noted_same, history-noted_other, Contains-noted, Contains-noted_new}
 use Rattle.gd_sim.proofs.Sending.{SenderSound, sender-silent, sender-sent, sender-resent, send_entry, after_send, resend_entry, after_resend}
-use Rattle.gd_sim.proofs.Taking.{ReceiverSound, DispatcherSound}
-use Rattle.gd_sim.proofs.Sound.{ConnSound, PacketSound, AnswerSound, Sound, Later, Goes, front, later-set, conns-set, conn-apart, network-noted, packet-later, answer-later, Contains-kept}
+use Rattle.gd_sim.proofs.Taken.{ReceiverSound, DispatcherSound, stream_of}
+use Rattle.gd_sim.proofs.Sound.{ConnSound, AnswerSound, Sound, Later, Goes, part_of, later-set, conns-set, conn-apart, network-noted, packet-later, answer-later, Contains-kept}
 
 -- ---- at a sender: its connection is written, and an entry is noted in its history
 
 -- the state afterwards, whatever was sent
-abbrev pub at_sender : State → ℕ → Conn → Entry → ℕ → List Slip → State
+abbrev pub at_sender : State → ℕ → Conn → Entry → ℕ → List Datagram → State
 at_sender st s d e sends packets = record st { conns = set st.conns s d; sends = sends; packets = packets; nodes = noted st.nodes (s + 1) e }
 
 -- what is to be shown of such an event
-record Sends (session : ℕ) (st : State) (s : ℕ) (c d : Conn) (e : Entry) (packets : List Slip) : Type 0 where
+record Sends (session : ℕ) (st : State) (s : ℕ) (c d : Conn) (e : Entry) (packets : List Datagram) : Type 0 where
   at : slice_get st.conns s ≡ Some c
+  same : part_of d ≡ part_of c
   key : d.key ≡ c.key
-  part : d.part ≡ c.part
+  part : d.chunks ≡ c.chunks
   taken : d.taken ≡ c.taken
   sender : SenderSound (history_at st.nodes (s + 1) ++ e ∷ []) d
-  within : d.next ≤ length d.part + 1
+  within : d.next ≤ length d.chunks + 1
   behind : d.taken ≤ d.next
   free : d.waiting ≡ false → d.taken ≡ d.next
   some : d.waiting ≡ true → 0 < d.next
-  came : (x : Slip) → Contains (arrives e) x → (node_of x.to ≡ s + 1) × Contains (emitted_of (history_at st.nodes (node_of x.from))) x
-  kept : (p : Slip) → Contains packets p → Contains st.packets p ⊎ (Contains (emits e) p × (p.from ≡ pos s) × (p.to ≡ dispatcher))
+  came : (x : Datagram) → Contains (arrives e) x → (node_of x.to ≡ s + 1) × Contains (emitted_of (history_at st.nodes (node_of x.from))) x
+  kept : (p : Datagram) → Contains packets p → Contains st.packets p ⊎ (Contains (emits e) p × (p.from ≡ pos s) × (p.to ≡ dispatcher))
 
-receiver_same : (h : List Entry) (c d : Conn) → d.key ≡ c.key → d.part ≡ c.part → d.taken ≡ c.taken → ReceiverSound h c → ReceiverSound h d
+receiver_same : (h : List Entry) (c d : Conn) → d.key ≡ c.key → d.chunks ≡ c.chunks → d.taken ≡ c.taken → ReceiverSound h c → ReceiverSound h d
 receiver_same h c d key part taken x =
-    let one : (k : _) → k ≡ c.key → length (parcels_of k h) ≡ c.taken = λ k is. ap (λ y. length (parcels_of y h)) is ∙ x.parcels in
     record {
-      parcels = one d.key key ∙ sym taken;
-      taken = ap (λ y. taken_of y h) key ∙ x.taken ∙ ap (λ n. take n c.part) (sym taken) ∙ ap (take d.taken) (sym part);
-      whole = ap (λ y. whole_of y h) key ∙ x.whole ∙ ap (nat_lt (length c.part)) (sym taken) ∙ ap (λ l. nat_lt (length l) d.taken) (sym part);
+      parcels = ap (λ y. length (parcels_of y h)) key ∙ x.parcels ∙ sym taken;
+      taken = ap (λ y. payloads_of y h) key ∙ x.taken ∙ ap (λ n. take n (stream_of c.chunks)) (sym taken) ∙ ap (λ l. take d.taken (stream_of l)) (sym part);
+      whole = ap (λ y. whole_of y h) key ∙ x.whole ∙ ap (nat_lt (length c.chunks)) (sym taken) ∙ ap (λ l. nat_lt (length l) d.taken) (sym part);
     }
 
-goes_at_sender : (session : ℕ) (st : State) (s : ℕ) (c d : Conn) (e : Entry) (sends : ℕ) (packets : List Slip) → Sound session st → Sends session st s c d e packets
+goes_at_sender : (session : ℕ) (st : State) (s : ℕ) (c d : Conn) (e : Entry) (sends : ℕ) (packets : List Datagram) → Sound session st → Sends session st s c d e packets
     → Goes session st (at_sender st s d e sends packets)
 goes_at_sender session st s c d e sends packets h x =
     let new = at_sender st s d e sends packets in
@@ -57,6 +57,7 @@ goes_at_sender session st s c d e sends packets h x =
     let old = h.conns s c x.at in
     let own : ConnSound session new.nodes s d = record {
       key = x.key ∙ old.key;
+      fits = subst (Fits session s) (sym x.part) old.fits;
       sender = subst (λ l. SenderSound l d) (sym (history-noted_same st.nodes (s + 1) e lt)) x.sender;
       receiver = subst (λ l. ReceiverSound l d) (sym (history-noted_other st.nodes (s + 1) 0 e lt (λ is. omega (arith, is)))) (receiver_same (history_at st.nodes 0) c d x.key x.part x.taken old.receiver);
       within = x.within;
@@ -64,9 +65,8 @@ goes_at_sender session st s c d e sends packets h x =
       free = x.free;
       some = x.some;
     } in
-    let later : Later st new = later-set st new s c d x.at refl x.part (omega (arith, x.taken)) (λ n p. Contains-noted emits st.nodes (s + 1) n e p lt) in
+    let later : Later st new = later-set st new s c d x.at refl x.same (omega (arith, x.taken)) (λ n p. Contains-noted emits st.nodes (s + 1) n e p lt) in
     let count = length-set st.conns s d in
-    let fronts : front d ≡ front c = ap (λ n. take n d.part) x.taken ∙ ap (take c.taken) x.part in
     record {
       sound = record {
         nodes = length-noted st.nodes (s + 1) e lt ∙ h.nodes ∙ ap (λ k. k + 1) (sym count);
@@ -77,8 +77,7 @@ goes_at_sender session st s c d e sends packets h x =
         ];
         answers = λ a in_it. answer-later st new a later (h.answers a in_it);
         network = network-noted st.nodes (s + 1) e lt h.network x.came;
-        dispatcher = subst (λ l. DispatcherSound session l st.rows) (sym (history-noted_other st.nodes (s + 1) 0 e lt (λ is. omega (arith, is)))) h.dispatcher;
-        answer = subst (λ l. IsPermutation l st.rows) (sym (flat_map-set_same front st.conns s c d x.at fronts)) h.answer;
+        dispatcher = subst (DispatcherSound session) (sym (history-noted_other st.nodes (s + 1) 0 e lt (λ is. omega (arith, is)))) h.dispatcher;
       };
       later = later;
     }
@@ -101,11 +100,11 @@ nat_le-true : (a b : ℕ) → nat_le a b ≡ true → a ≤ b
 nat_le-true a b is = elim (leb_tells a b) [ inl w ↦ w.1 | inr w ↦ absurd (let e = w.0 in cc (e, is)) ]
 
 -- a packet and its ends
-packet_ends : (session s : ℕ) (c : Conn) (k : ℕ) (p : Slip) → c.key ≡ gather_key session (pos s) → p ≡ packet c k → (p.from ≡ pos s) × (p.to ≡ dispatcher)
-packet_ends session s c k p named is = (ap (λ (y : Slip). y.from) is ∙ ap (λ y. y.from) named, ap (λ (y : Slip). y.to) is ∙ ap (λ y. y.to) named)
+packet_ends : (session s : ℕ) (c : Conn) (k : ℕ) (p : Datagram) → c.key ≡ gather_key session (pos s) → p ≡ packet c k → (p.from ≡ pos s) × (p.to ≡ dispatcher)
+packet_ends session s c k p named is = (ap (λ (y : Datagram). y.from) is ∙ ap (λ y. y.from) named, ap (λ (y : Datagram). y.to) is ∙ ap (λ y. y.to) named)
 
-kept_or_new : (session s : ℕ) (c : Conn) (k : ℕ) (before : List Slip) (drops : List ℕ) (number : ℕ) → c.key ≡ gather_key session (pos s)
-    → (p : Slip) → Contains (before ++ kept drops number (packet c k)) p → Contains before p ⊎ (Contains (packet c k ∷ []) p × (p.from ≡ pos s) × (p.to ≡ dispatcher))
+kept_or_new : (session s : ℕ) (c : Conn) (k : ℕ) (before : List Datagram) (drops : List ℕ) (number : ℕ) → c.key ≡ gather_key session (pos s)
+    → (p : Datagram) → Contains (before ++ kept drops number (packet c k)) p → Contains before p ⊎ (Contains (packet c k ∷ []) p × (p.from ≡ pos s) × (p.to ≡ dispatcher))
 kept_or_new session s c k before drops number named p in_it =
     elim (Contains-append_cases before (kept drops number (packet c k)) p in_it) [
       | inl old ↦ inl old
@@ -115,37 +114,39 @@ kept_or_new session s c k before drops number named p in_it =
           inr (subst (Contains (packet c k ∷ [])) (sym is) (Contains-self (packet c k)), ends.0, ends.1)
     ]
 
-slip_in-ask_of : (key : _) (o : Option (List ℤ)) → slip_in (ask_of key (kind_of o)) ≡ []
-slip_in-ask_of key None = refl
-slip_in-ask_of key (Some row) = refl
+datagram_in-ask_of : (key : _) (o : Option (List ℕ)) → datagram_in (ask_of key o) ≡ []
+datagram_in-ask_of key None = refl
+datagram_in-ask_of key (Some chunk) = refl
 
-pub goes_sent : (session : ℕ) (st : State) (s : ℕ) (c : Conn) → Sound session st → slice_get st.conns s ≡ Some c → is_ready c ≡ true → Goes session st (sent st s c (packet c c.next))
+pub goes_sent : (session : ℕ) (st : State) (s : ℕ) (c : Conn) → Sound session st → slice_get st.conns s ≡ Some c → is_ready c ≡ true → Goes session st (sent st s c)
 goes_sent session st s c h at ready =
     let old = h.conns s c at in
-    let le : c.next ≤ length c.part = nat_le-true c.next (length c.part) (and_right (not c.waiting) (nat_le c.next (length c.part)) ready) in
+    let le : c.next ≤ length c.chunks = nat_le-true c.next (length c.chunks) (and_right (not c.waiting) (nat_le c.next (length c.chunks)) ready) in
     goes_at_sender session st s c (after_send c) (send_entry c) (st.sends + 1) (st.packets ++ kept st.drops (st.sends + 1) (packet c c.next)) h (record {
       at = at;
+      same = refl;
       key = refl;
       part = refl;
       taken = refl;
-      sender = sender-sent (history_at st.nodes (s + 1)) c le old.sender;
+      sender = sender-sent session s (history_at st.nodes (s + 1)) c old.key old.fits le old.sender;
       within = omega (arith, le);
       behind = omega (arith, old.behind);
       free = λ e. cc;
       some = λ e. omega arith;
-      came = λ x came. absurd (Contains-nil x (subst (λ l. Contains l x) (slip_in-ask_of c.key (slice_get c.part c.next)) came));
+      came = λ x came. absurd (Contains-nil x (subst (λ l. Contains l x) (datagram_in-ask_of c.key (slice_get c.chunks c.next)) came));
       kept = kept_or_new session s c c.next st.packets st.drops (st.sends + 1) old.key;
     })
 
-pub goes_resent : (session : ℕ) (st : State) (s : ℕ) (c : Conn) → Sound session st → slice_get st.conns s ≡ Some c → c.waiting ≡ true → Goes session st (resent st s c (packet c (c.next - 1)))
+pub goes_resent : (session : ℕ) (st : State) (s : ℕ) (c : Conn) → Sound session st → slice_get st.conns s ≡ Some c → c.waiting ≡ true → Goes session st (resent st s c)
 goes_resent session st s c h at waits =
     let old = h.conns s c at in
     goes_at_sender session st s c (after_resend c) (resend_entry c) (st.sends + 1) (st.packets ++ kept st.drops (st.sends + 1) (packet c (c.next - 1))) h (record {
       at = at;
+      same = refl;
       key = refl;
       part = refl;
       taken = refl;
-      sender = sender-resent (history_at st.nodes (s + 1)) c (old.some waits) old.sender;
+      sender = sender-resent session s (history_at st.nodes (s + 1)) c old.key old.fits old.within (old.some waits) old.sender;
       within = old.within;
       behind = old.behind;
       free = old.free;
@@ -155,11 +156,11 @@ goes_resent session st s c h at waits =
     })
 
 -- the counts that a sender's history tells of stay
-sender_same : (h : List Entry) (c d : Conn) → d.key ≡ c.key → d.part ≡ c.part → d.next ≡ c.next → d.resent ≡ c.resent → SenderSound h c → SenderSound h d
+sender_same : (h : List Entry) (c d : Conn) → d.key ≡ c.key → d.chunks ≡ c.chunks → d.next ≡ c.next → d.resent ≡ c.resent → SenderSound h c → SenderSound h d
 sender_same h c d key part next copies x =
-    let P : _ → _ → _ → _ → Type 0 = λ k l n r. SenderSound h (record d { key = k; part = l; next = n; resent = r }) in
-    let base : P c.key c.part c.next c.resent = record { sent = x.sent; finished = x.finished; packets = x.packets; order = x.order; greatest = x.greatest; count = x.count } in
-    subst (λ k. P k d.part d.next d.resent) (sym key) (subst (λ l. P c.key l d.next d.resent) (sym part) (subst (λ n. P c.key c.part n d.resent) (sym next) (subst (P c.key c.part c.next) (sym copies) base)))
+    let P : _ → _ → _ → _ → Type 0 = λ k l n r. SenderSound h (record d { key = k; chunks = l; next = n; resent = r }) in
+    let base : P c.key c.chunks c.next c.resent = record { put = x.put; finished = x.finished; packets = x.packets; order = x.order; greatest = x.greatest; count = x.count } in
+    subst (λ k. P k d.chunks d.next d.resent) (sym key) (subst (λ l. P c.key l d.next d.resent) (sym part) (subst (λ n. P c.key c.chunks n d.resent) (sym next) (subst (P c.key c.chunks c.next) (sym copies) base)))
 
 pub goes_ticked : (session : ℕ) (st : State) (s : ℕ) (c : Conn) → Sound session st → slice_get st.conns s ≡ Some c → Goes session st (ticked st s c)
 goes_ticked session st s c h at =
@@ -168,6 +169,7 @@ goes_ticked session st s c h at =
     let e : Entry = record { ask = Tick; reply = Ticked [] } in
     goes_at_sender session st s c d e st.sends st.packets h (record {
       at = at;
+      same = refl;
       key = refl;
       part = refl;
       taken = refl;
@@ -192,26 +194,30 @@ freed_now c number le behind free now =
     still true false off e = e
     still false b off e = refl
 
-pub goes_answered : (session : ℕ) (st : State) (a : Slip) → Sound session st → (x : AnswerSound st.nodes st.conns a) → Goes session st (answer_at st a x.place (Some x.conn))
-goes_answered session st a h x =
+pub goes_answered : (session : ℕ) (st : State) (a : Datagram) (r : Header × List ℕ) → Sound session st → (x : AnswerSound st.nodes st.conns a) → r.0.seq ≡ x.number
+    → Goes session st (answer_at st a x.place r (Some x.conn))
+goes_answered session st a r h x number =
     let s = x.place in
     let c = x.conn in
     let old = h.conns s c x.at in
-    let d = freed c a.seq in
+    let d = freed c r.0.seq in
     let e : Entry = record { ask = Arrive a; reply = Came [] } in
+    let to : a.to ≡ pos s = ap (λ (z : Datagram). z.to) x.is ∙ ap (λ k. k.from) old.key in
+    let from : a.from ≡ dispatcher = ap (λ (z : Datagram). z.from) x.is ∙ ap (λ k. k.to) old.key in
     goes_at_sender session st s c d e st.sends st.packets h (record {
       at = x.at;
+      same = refl;
       key = refl;
       part = refl;
       taken = refl;
       sender = sender_same _ c d refl refl refl refl (sender-silent (history_at st.nodes (s + 1)) e c refl refl refl old.sender);
       within = old.within;
       behind = old.behind;
-      free = freed_now c a.seq x.told old.behind old.free;
-      some = λ waits. old.some (and_left c.waiting (not (a.seq == c.next)) waits);
+      free = freed_now c r.0.seq (omega (arith, x.told, number)) old.behind old.free;
+      some = λ waits. old.some (and_left c.waiting (not (r.0.seq == c.next)) waits);
       came = λ y came. let is = Contains-single a y came in (
-        ap (λ (z : Slip). node_of z.to) is ∙ ap node_of x.to,
-        subst (λ (z : Slip). Contains (emitted_of (history_at st.nodes (node_of z.from))) z) (sym is) (subst (λ n. Contains (emitted_of (history_at st.nodes n)) a) (sym (ap node_of x.from)) x.sent),
+        ap (λ (z : Datagram). node_of z.to) is ∙ ap node_of to,
+        subst (λ (z : Datagram). Contains (emitted_of (history_at st.nodes (node_of z.from))) z) (sym is) (subst (λ n. Contains (emitted_of (history_at st.nodes n)) a) (sym (ap node_of from)) x.sent),
       );
       kept = λ p in_it. inl in_it;
     })

@@ -1,5 +1,5 @@
 -- When two keys name one connection.
-use Rattle.std.proofs.Common.{◌≡◌, ◌≢◌, ℕ, ℤ, pos, negsuc, Bool, true, false, ◌&&◌, ◌==◌, Option, Some, None, refl, ap, sym, ◌∙◌, subst, arith, inl, inr}
+use Rattle.std.proofs.Common.{◌≡◌, ◌≢◌, ℕ, ℤ, pos, negsuc, Bool, true, false, ◌&&◌, ◌==◌, Some, refl, ap, inl, inr}
 use Rattle.std.proofs.lemmas.Bool.Decides.{eqb_tells}
 use Rattle.ic_base.specs.declared.keys.ConnKey.{ConnKey}
 use Rattle.gd_sim.specs.Keys.{gather_key, dispatcher, key_eq, seg_eq, place_of}

@@ -1,34 +1,35 @@
 -- What the rounds keep of a state, and what later states keep of earlier ones.
-use Rattle.std.proofs.Common.{◌≡◌, ◌≢◌, ℕ, zero, suc, ◌+◌, ◌-◌, ◌<◌, ◌≤◌, ℤ, pos, List, [], ◌∷◌, ◌++◌, length, take, set, map, Bool, true, false, cond, Option, Some, None, refl, ap, sym, ◌∙◌, subst, arith, inl, inr, ◌⊎◌, slice_get}
+use Rattle.std.proofs.Common.{◌≡◌, ◌≢◌, ℕ, ◌+◌, ◌<◌, ◌≤◌, pos, List, [], ◌∷◌, length, set, map, Bool, true, false, cond, Some, refl, ap, sym, ◌∙◌, subst, arith, inl, inr, ◌⊎◌, slice_get}
 use Rattle.std.proofs.lemmas.Bool.Decides.{eqb_tells}
 use Rattle.std.proofs.lemmas.List.{length-map}
-use Rattle.std.proofs.lemmas.List.Elements.{Contains-append_cases}
-use Rattle.std.specs.List.{flat_map, Contains}
-use Rattle.std.specs.List.Sorted.{IsPermutation}
+use Rattle.std.specs.List.{Contains}
+use Rattle.ic_base.specs.declared.keys.ConnKey.{ConnKey}
 use Rattle.gd_sim.specs.declared.conn.Conn.{Conn}
-use Rattle.gd_sim.specs.declared.slip.Slip.{Slip}
+use Rattle.gd_sim.specs.declared.datagram.Datagram.{Datagram}
 use Rattle.gd_sim.specs.declared.history.Entry.{Entry}
 use Rattle.gd_sim.specs.Keys.{dispatcher, gather_key, node_of}
 use Rattle.gd_sim.specs.History.{history_at, emits, arrives, takes, emitted_of}
+use Rattle.gd_sim.specs.Packets.{ack_of, Fits}
 use Rattle.gd_sim.specs.Laws.{NetworkLaw}
 use Rattle.gd_sim.specs.Rounds.{State, kept, is_lost, noted}
 use Rattle.gd_sim.proofs.Lists.{Contains-nil, Contains-single, slice_get-set_cases, slice_get-set_here, slice_get-set_there, map-set_same}
 use Rattle.gd_sim.proofs.Noting.{history-noted_same, history-noted_other, Contains-noted, Contains-noted_cases}
 use Rattle.gd_sim.proofs.Sending.{SenderSound}
-use Rattle.gd_sim.proofs.Taking.{ReceiverSound, DispatcherSound, receiver-silent}
+use Rattle.gd_sim.proofs.Taken.{ReceiverSound, DispatcherSound, receiver-silent}
 
 -- the histories say what a connection's counts say
 pub record ConnSound (session : ℕ) (nodes : List (List Entry)) (s : ℕ) (c : Conn) : Type 0 where
   pub key : c.key ≡ gather_key session (pos s)
+  pub fits : Fits session s c.chunks
   pub sender : SenderSound (history_at nodes (s + 1)) c
   pub receiver : ReceiverSound (history_at nodes 0) c
-  pub within : c.next ≤ length c.part + 1
+  pub within : c.next ≤ length c.chunks + 1
   pub behind : c.taken ≤ c.next
   pub free : c.waiting ≡ false → c.taken ≡ c.next
   pub some : c.waiting ≡ true → 0 < c.next
 
 -- a packet that the network keeps is one that its sender emitted
-pub record PacketSound (nodes : List (List Entry)) (count : ℕ) (p : Slip) : Type 0 where
+pub record PacketSound (nodes : List (List Entry)) (count : ℕ) (p : Datagram) : Type 0 where
   pub place : ℕ
   pub within : place < count
   pub from : p.from ≡ pos place
@@ -36,36 +37,37 @@ pub record PacketSound (nodes : List (List Entry)) (count : ℕ) (p : Slip) : Ty
   pub sent : Contains (emitted_of (history_at nodes (place + 1))) p
 
 -- an acknowledgement that the network keeps names no more than was taken
-pub record AnswerSound (nodes : List (List Entry)) (conns : List Conn) (a : Slip) : Type 0 where
+pub record AnswerSound (nodes : List (List Entry)) (conns : List Conn) (a : Datagram) : Type 0 where
   pub place : ℕ
   pub conn : Conn
   pub at : slice_get conns place ≡ Some conn
-  pub to : a.to ≡ pos place
-  pub from : a.from ≡ dispatcher
+  pub number : ℕ
+  pub is : a ≡ ack_of conn.key number
   pub sent : Contains (emitted_of (history_at nodes 0)) a
-  pub told : a.seq ≤ conn.taken
-
--- the rows that were taken from a connection
-abbrev pub front : Conn → List (List ℤ)
-front c = take c.taken c.part
+  pub told : number ≤ conn.taken
 
 pub record Sound (session : ℕ) (st : State) : Type 0 where
   pub nodes : length st.nodes ≡ length st.conns + 1
   pub conns : (s : ℕ) (c : Conn) → slice_get st.conns s ≡ Some c → ConnSound session st.nodes s c
-  pub packets : (p : Slip) → Contains st.packets p → PacketSound st.nodes (length st.conns) p
-  pub answers : (a : Slip) → Contains st.answers a → AnswerSound st.nodes st.conns a
+  pub packets : (p : Datagram) → Contains st.packets p → PacketSound st.nodes (length st.conns) p
+  pub answers : (a : Datagram) → Contains st.answers a → AnswerSound st.nodes st.conns a
   pub network : NetworkLaw st.nodes
-  pub dispatcher : DispatcherSound session (history_at st.nodes 0) st.rows
-  pub answer : IsPermutation (flat_map front st.conns) st.rows
+  pub dispatcher : DispatcherSound session (history_at st.nodes 0)
 
-abbrev pub part_of : Conn → List (List ℤ)
-part_of c = c.part
+-- what stays of a connection
+pub record Kept : Type 0 where
+  pub key : ConnKey
+  pub rows : ℕ
+  pub chunks : List (List ℕ)
+
+abbrev pub part_of : Conn → Kept
+part_of c = record { key = c.key; rows = c.rows; chunks = c.chunks }
 
 -- parts stay, and nothing that was emitted or taken is lost
 pub record Later (old new : State) : Type 0 where
   pub parts : map part_of new.conns ≡ map part_of old.conns
-  pub emitted : (n : ℕ) (p : Slip) → Contains (emitted_of (history_at old.nodes n)) p → Contains (emitted_of (history_at new.nodes n)) p
-  pub taken : (s : ℕ) (c : Conn) → slice_get old.conns s ≡ Some c → (d : Conn) × (slice_get new.conns s ≡ Some d) × (c.taken ≤ d.taken)
+  pub emitted : (n : ℕ) (p : Datagram) → Contains (emitted_of (history_at old.nodes n)) p → Contains (emitted_of (history_at new.nodes n)) p
+  pub taken : (s : ℕ) (c : Conn) → slice_get old.conns s ≡ Some c → (d : Conn) × (slice_get new.conns s ≡ Some d) × (c.taken ≤ d.taken) × (d.key ≡ c.key)
 
 -- a step from a sound state to a later one
 pub record Goes (session : ℕ) (old new : State) : Type 0 where
@@ -73,13 +75,13 @@ pub record Goes (session : ℕ) (old new : State) : Type 0 where
   pub later : Later old new
 
 pub later-self : (st : State) → Later st st
-later-self st = record { parts = refl; emitted = λ n p h. h; taken = λ s c at. (c, at, omega arith) }
+later-self st = record { parts = refl; emitted = λ n p h. h; taken = λ s c at. (c, at, omega arith, refl) }
 
 pub later-trans : (a b c : State) → Later a b → Later b c → Later a c
 later-trans a b c x y = record {
   parts = y.parts ∙ x.parts;
   emitted = λ n p h. y.emitted n p (x.emitted n p h);
-  taken = λ s k at. let v = x.taken s k at in let w = y.taken s v.0 v.1 in (w.0, w.1, omega (arith, v.2, w.2));
+  taken = λ s k at. let v = x.taken s k at in let w = y.taken s v.0 v.1 in (w.0, w.1, omega (arith, v.2, w.2), w.3 ∙ v.3);
 }
 
 pub goes-self : (session : ℕ) (st : State) → Sound session st → Goes session st st
@@ -91,7 +93,7 @@ goes-trans session a b c x then = let y = then x.sound in record { sound = y.sou
 length-later : (old new : State) → Later old new → length new.conns ≡ length old.conns
 length-later old new x = sym (length-map new.conns part_of) ∙ ap length x.parts ∙ length-map old.conns part_of
 
-pub packet-later : (old new : State) (p : Slip) → Later old new → PacketSound old.nodes (length old.conns) p → PacketSound new.nodes (length new.conns) p
+pub packet-later : (old new : State) (p : Datagram) → Later old new → PacketSound old.nodes (length old.conns) p → PacketSound new.nodes (length new.conns) p
 packet-later old new p x h = record {
   place = h.place;
   within = omega (arith, h.within, length-later old new x);
@@ -100,15 +102,23 @@ packet-later old new p x h = record {
   sent = x.emitted (h.place + 1) p h.sent;
 }
 
-pub answer-later : (old new : State) (a : Slip) → Later old new → AnswerSound old.nodes old.conns a → AnswerSound new.nodes new.conns a
+pub answer-later : (old new : State) (a : Datagram) → Later old new → AnswerSound old.nodes old.conns a → AnswerSound new.nodes new.conns a
 answer-later old new a x h =
     let w = x.taken h.place h.conn h.at in
-    record { place = h.place; conn = w.0; at = w.1; to = h.to; from = h.from; sent = x.emitted 0 a h.sent; told = omega (arith, h.told, w.2) }
+    record {
+      place = h.place;
+      conn = w.0;
+      at = w.1;
+      number = h.number;
+      is = h.is ∙ ap (λ k. ack_of k h.number) (sym w.3);
+      sent = x.emitted 0 a h.sent;
+      told = omega (arith, h.told, w.2);
+    }
 
 -- ---- one connection is written
 
-pub later-set : (old new : State) (s : ℕ) (c d : Conn) → slice_get old.conns s ≡ Some c → new.conns ≡ set old.conns s d → d.part ≡ c.part → c.taken ≤ d.taken
-    → ((n : ℕ) (p : Slip) → Contains (emitted_of (history_at old.nodes n)) p → Contains (emitted_of (history_at new.nodes n)) p) → Later old new
+pub later-set : (old new : State) (s : ℕ) (c d : Conn) → slice_get old.conns s ≡ Some c → new.conns ≡ set old.conns s d → part_of d ≡ part_of c → c.taken ≤ d.taken
+    → ((n : ℕ) (p : Datagram) → Contains (emitted_of (history_at old.nodes n)) p → Contains (emitted_of (history_at new.nodes n)) p) → Later old new
 later-set old new s c d at write part more emitted = record {
   parts = ap (map part_of) write ∙ map-set_same part_of old.conns s c d at part;
   emitted = emitted;
@@ -116,8 +126,8 @@ later-set old new s c d at write part more emitted = record {
     | inl is ↦
         let same : Some c ≡ Some b = sym at ∙ ap (slice_get old.conns) (sym is) ∙ found in
         let e : c ≡ b = cc in
-        (d, ap (λ l. slice_get l t) write ∙ ap (slice_get (set old.conns s d)) is ∙ slice_get-set_here old.conns s c d at, subst (λ (k : Conn). k.taken ≤ d.taken) e more)
-    | inr ne ↦ (b, ap (λ l. slice_get l t) write ∙ slice_get-set_there old.conns s t b d ne found, omega arith)
+        (d, ap (λ l. slice_get l t) write ∙ ap (slice_get (set old.conns s d)) is ∙ slice_get-set_here old.conns s c d at, subst (λ (k : Conn). k.taken ≤ d.taken) e more, ap (λ (k : Kept). k.key) part ∙ ap (λ (k : Conn). k.key) e)
+    | inr ne ↦ (b, ap (λ l. slice_get l t) write ∙ slice_get-set_there old.conns s t b d ne found, omega arith, refl)
   ];
 }
   where
@@ -139,6 +149,7 @@ conns-set session nodes conns s d here others t b found =
 pub conn-apart : (session : ℕ) (nodes : List (List Entry)) (n : ℕ) (e : Entry) (t : ℕ) (b : Conn) → n < length nodes → t + 1 ≢ n → 0 ≢ n → ConnSound session nodes t b → ConnSound session (noted nodes n e) t b
 conn-apart session nodes n e t b lt apart away x = record {
   key = x.key;
+  fits = x.fits;
   sender = subst (λ h. SenderSound h b) (sym (history-noted_other nodes n (t + 1) e lt apart)) x.sender;
   receiver = subst (λ h. ReceiverSound h b) (sym (history-noted_other nodes n 0 e lt away)) x.receiver;
   within = x.within;
@@ -151,6 +162,7 @@ conn-apart session nodes n e t b lt apart away x = record {
 pub conn-beside : (session : ℕ) (nodes : List (List Entry)) (e : Entry) (t : ℕ) (b : Conn) → 0 < length nodes → takes b.key e ≡ [] → ConnSound session nodes t b → ConnSound session (noted nodes 0 e) t b
 conn-beside session nodes e t b lt none x = record {
   key = x.key;
+  fits = x.fits;
   sender = subst (λ h. SenderSound h b) (sym (history-noted_other nodes 0 (t + 1) e lt (λ is. omega (arith, is)))) x.sender;
   receiver = subst (λ h. ReceiverSound h b) (sym (history-noted_same nodes 0 e lt)) (receiver-silent (history_at nodes 0) e b none x.receiver);
   within = x.within;
@@ -160,7 +172,7 @@ conn-beside session nodes e t b lt none x = record {
 }
 
 pub network-noted : (nodes : List (List Entry)) (n : ℕ) (e : Entry) → n < length nodes → NetworkLaw nodes
-    → ((x : Slip) → Contains (arrives e) x → (node_of x.to ≡ n) × Contains (emitted_of (history_at nodes (node_of x.from))) x) → NetworkLaw (noted nodes n e)
+    → ((x : Datagram) → Contains (arrives e) x → (node_of x.to ≡ n) × Contains (emitted_of (history_at nodes (node_of x.from))) x) → NetworkLaw (noted nodes n e)
 network-noted nodes n e lt law here m x came =
     elim (Contains-noted_cases arrives nodes n m e x lt came) [
       | inl old ↦ let h = law m x old in (h.0, Contains-noted emits nodes n (node_of x.from) e x lt h.1)
@@ -168,7 +180,7 @@ network-noted nodes n e lt law here m x came =
     ]
 
 -- what is kept of a send is the send
-pub Contains-kept : (drops : List ℕ) (number : ℕ) (p q : Slip) → Contains (kept drops number p) q → q ≡ p
+pub Contains-kept : (drops : List ℕ) (number : ℕ) (p q : Datagram) → Contains (kept drops number p) q → q ≡ p
 Contains-kept drops number p q = by (is_lost drops number)
   where
     by : (b : Bool) → Contains (cond b [] (p ∷ [])) q → q ≡ p

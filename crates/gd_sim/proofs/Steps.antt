@@ -1,8 +1,8 @@
 -- One step of a loop of the rounds.
-use Rattle.std.proofs.Common.{◌≡◌, ℕ, zero, suc, ◌+◌, ◌-◌, ◌<◌, List, length, Bool, true, false, cond, Option, Some, None, refl, ap, sym, ◌∙◌, arith, add-one, slice_get, length-set}
+use Rattle.std.proofs.Common.{◌≡◌, ℕ, suc, ◌+◌, ◌-◌, ◌<◌, length, Bool, true, false, cond, Option, Some, None, refl, ap, sym, ◌∙◌, arith, add-one, slice_get, length-set}
 use Rattle.std.specs.List.{list_all}
 use Rattle.gd_sim.specs.declared.conn.Conn.{Conn}
-use Rattle.gd_sim.specs.Rounds.{State, send, send_from, sent, packet, sends_of, wait, wait_from, wait_with, waits_of, ticked, resent, round, rounds_of, is_done, is_ready, is_patient}
+use Rattle.gd_sim.specs.Rounds.{State, send, send_from, sent, sends_of, wait, wait_from, wait_with, waits_of, ticked, resent, round, rounds_of, is_done, is_ready, is_patient}
 
 -- what holds of both holds of the choice
 pub either : {X : Type 0} (P : X → Type 0) (b : Bool) (x y : X) → P x → P y → P (cond b x y)
@@ -22,7 +22,7 @@ rounds_of-step st i n lt not_over =
 
 length-send_from : (st : State) (i : ℕ) (c : Option Conn) → length (send_from st i c).conns ≡ length st.conns
 length-send_from st i None = refl
-length-send_from st i (Some c) = either (λ (s : State). length s.conns ≡ length st.conns) (is_ready c) (sent st i c (packet c c.next)) st (length-set st.conns i _) refl
+length-send_from st i (Some c) = either (λ (s : State). length s.conns ≡ length st.conns) (is_ready c) (sent st i c) st (length-set st.conns i _) refl
 
 pub length-send : (st : State) (i : ℕ) → length (send st i).conns ≡ length st.conns
 length-send st i = length-send_from st i (slice_get st.conns i)
@@ -31,7 +31,7 @@ length-wait_from : (st : State) (i : ℕ) (c : Option Conn) → length (wait_fro
 length-wait_from st i None = refl
 length-wait_from st i (Some c) =
     either (λ (s : State). length s.conns ≡ length st.conns) c.waiting (wait_with st i c) st
-    (either (λ (s : State). length s.conns ≡ length st.conns) (is_patient c) (ticked st i c) (resent st i c (packet c (c.next - 1))) (length-set st.conns i _) (length-set st.conns i _)) refl
+    (either (λ (s : State). length s.conns ≡ length st.conns) (is_patient c) (ticked st i c) (resent st i c) (length-set st.conns i _) (length-set st.conns i _)) refl
 
 pub length-wait : (st : State) (i : ℕ) → length (wait st i).conns ≡ length st.conns
 length-wait st i = length-wait_from st i (slice_get st.conns i)

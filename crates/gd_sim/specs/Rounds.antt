@@ -1,28 +1,32 @@
 -- The rounds as a plain program: steps of a state. It says when a run is over, and nothing else is stated by it.
-use Rattle.std.specs.Prelude.{◌≡◌, ℕ, zero, suc, ◌+◌, ◌-◌, ℤ, pos, negsuc, List, [], ◌∷◌, ◌++◌, length, min, Bool, true, false, not, ◌&&◌, ◌==◌, nat_lt, nat_le, if◌then◌else◌, Option, Some, None, slice_get, slice_set, replicate}
-use Rattle.std.specs.List.{list_all, list_any}
+use Rattle.std.specs.Prelude.{ℕ, zero, suc, ◌+◌, ◌-◌, pos, List, [], ◌∷◌, ◌++◌, length, map, Bool, true, false, not, ◌&&◌, ◌==◌, nat_lt, nat_le, if◌then◌else◌, Option, Some, None, Result, Ok, Err, slice_get, slice_set, replicate}
+use Rattle.std.specs.List.{list_all, list_any, flat_map}
 use Rattle.ic_base.specs.declared.keys.ConnKey.{ConnKey}
+use Rattle.ic_row.specs.declared.value.Value.{Value}
+use Rattle.ic_row.specs.Spelling.{spelling_of}
+use Rattle.ic_header.specs.declared.header.Header.{Header}
+use Rattle.ic_header.specs.declared.fault.HeaderFault.{HeaderFault}
+use Rattle.ic_header.specs.Reading.{read_header}
+use Rattle.ic_chunk.specs.Chunks.{spelled}
+use Rattle.ic_chunk.specs.Cutting.{chunks_of}
 use Rattle.gd_sim.specs.declared.conn.Conn.{Conn}
-use Rattle.gd_sim.specs.declared.slip.Slip.{Slip}
-use Rattle.gd_sim.specs.declared.slip.SlipKind.{SlipKind}
-use Rattle.gd_sim.specs.declared.slip.SlipKind.TheVariants.{One, End, Got}
+use Rattle.gd_sim.specs.declared.datagram.Datagram.{Datagram}
 use Rattle.gd_sim.specs.declared.history.HubAsk.{HubAsk}
 use Rattle.gd_sim.specs.declared.history.HubAsk.TheVariants.{Put, Finish, TakeFrom, Arrive, Tick}
-use Rattle.gd_sim.specs.declared.history.HubReply.{HubReply}
 use Rattle.gd_sim.specs.declared.history.HubReply.TheVariants.{Gave, Took, Came, Ticked}
 use Rattle.gd_sim.specs.declared.history.Parcel.{Parcel}
 use Rattle.gd_sim.specs.declared.history.Entry.{Entry}
 use Rattle.gd_sim.specs.declared.tally.Tally.{Tally}
 use Rattle.gd_sim.specs.Keys.{gather_key, place_of}
+use Rattle.gd_sim.specs.Packets.{packet_behind, ack_of, is_last}
 
 pub record State : Type 0 where
   pub conns : List Conn
   pub drops : List ℕ
   pub sends : ℕ
-  pub packets : List Slip
-  pub answers : List Slip
+  pub packets : List Datagram
+  pub answers : List Datagram
   pub nodes : List (List Entry)
-  pub rows : List (List ℤ)
 
 -- with the entry at the end of that node's history
 abbrev pub with_entry : List (List Entry) → ℕ → Entry → Option (List Entry) → List (List Entry)
@@ -38,16 +42,16 @@ abbrev pub is_lost : List ℕ → ℕ → Bool
 is_lost drops number = list_any (λ drop. drop == number) drops
 
 -- what is kept of the send of this number
-abbrev pub kept : List ℕ → ℕ → Slip → List Slip
-kept drops number slip = if is_lost drops number then [] else slip ∷ []
+abbrev pub kept : List ℕ → ℕ → Datagram → List Datagram
+kept drops number d = if is_lost drops number then [] else d ∷ []
 
 -- ---- one connection
 
-abbrev pub new_conn : ConnKey → List (List ℤ) → Conn
-new_conn key part = record { key = key; part = part; next = 0; taken = 0; waiting = false; waited = 0; resent = 0 }
+abbrev pub new_conn : ConnKey → ℕ → List (List ℕ) → Conn
+new_conn key rows chunks = record { key = key; rows = rows; chunks = chunks; next = 0; taken = 0; waiting = false; waited = 0; resent = 0 }
 
 abbrev pub is_ready : Conn → Bool
-is_ready conn = not conn.waiting && nat_le conn.next (length conn.part)
+is_ready conn = not conn.waiting && nat_le conn.next (length conn.chunks)
 
 abbrev pub is_next : Conn → ℕ → Bool
 is_next conn seq = seq == conn.taken + 1
@@ -57,63 +61,46 @@ abbrev pub is_patient : Conn → Bool
 is_patient conn = not (conn.waited == 3)
 
 abbrev pub is_done : Conn → Bool
-is_done conn = not conn.waiting && nat_lt (length conn.part) conn.next
-
-abbrev pub kind_of : Option (List ℤ) → SlipKind
-kind_of (Some row) = One row
-kind_of None = End
+is_done conn = not conn.waiting && nat_lt (length conn.chunks) conn.next
 
 -- the packet with this many before it
-abbrev pub packet : Conn → ℕ → Slip
-packet conn before = record { from = conn.key.from; to = conn.key.to; seq = before + 1; kind = kind_of (slice_get conn.part before) }
+abbrev pub packet : Conn → ℕ → Datagram
+packet conn before = packet_behind conn.key conn.chunks before
 
-abbrev pub ask_of : ConnKey → SlipKind → HubAsk
-ask_of key (One row) = Put key row
-ask_of key End = Finish key
-ask_of key Got = Finish key
+abbrev pub ask_of : ConnKey → Option (List ℕ) → HubAsk
+ask_of key (Some chunk) = Put key chunk
+ask_of key None = Finish key
 
-abbrev pub row_of : SlipKind → Option (List ℤ)
-row_of (One row) = Some row
-row_of End = None
-row_of Got = None
-
-abbrev pub parcel_of : ℤ → SlipKind → Parcel
-parcel_of from kind = record { from = from; row = row_of kind }
-
-abbrev pub rows_in : Option (List ℤ) → List (List ℤ)
-rows_in (Some row) = row ∷ []
-rows_in None = []
-
--- the acknowledgement of so many packets
-abbrev pub got : ConnKey → ℕ → Slip
-got key taken = record { from = key.to; to = key.from; seq = taken; kind = Got }
+-- what is asked for that packet
+abbrev pub ask_behind : Conn → ℕ → HubAsk
+ask_behind conn before = ask_of conn.key (slice_get conn.chunks before)
 
 -- what the connection did so far
-abbrev pub told : Conn → Tally
-told conn =
+abbrev pub told : Conn → ℕ → Tally
+told conn rows =
     record {
       key = conn.key;
-      sent = min conn.next (length conn.part);
-      taken = min conn.taken (length conn.part);
+      sent = conn.rows;
+      taken = rows;
       packets = conn.next;
       resent = conn.resent;
-      whole = nat_lt (length conn.part) conn.taken;
+      whole = nat_lt (length conn.chunks) conn.taken;
     }
 
 -- ---- first, each sender with nothing unacknowledged sends its next packet
 
-abbrev pub sent : State → ℕ → Conn → Slip → State
-sent st segment conn slip =
+abbrev pub sent : State → ℕ → Conn → State
+sent st segment conn =
     record st {
-      conns = slice_set st.conns segment (record conn { next = slip.seq; waiting = true; waited = 0 });
+      conns = slice_set st.conns segment (record conn { next = conn.next + 1; waiting = true; waited = 0 });
       sends = st.sends + 1;
-      packets = st.packets ++ kept st.drops (st.sends + 1) slip;
-      nodes = noted st.nodes (segment + 1) (record { ask = ask_of conn.key slip.kind; reply = Gave (slip ∷ []) });
+      packets = st.packets ++ kept st.drops (st.sends + 1) (packet conn conn.next);
+      nodes = noted st.nodes (segment + 1) (record { ask = ask_behind conn conn.next; reply = Gave (packet conn conn.next ∷ []) });
     }
 
 abbrev pub send_from : State → ℕ → Option Conn → State
 send_from st segment None = st
-send_from st segment (Some conn) = if is_ready conn then sent st segment conn (packet conn conn.next) else st
+send_from st segment (Some conn) = if is_ready conn then sent st segment conn else st
 
 abbrev pub send : State → ℕ → State
 send st segment = send_from st segment (slice_get st.conns segment)
@@ -126,49 +113,56 @@ sends_of st segment (suc more) = sends_of (send st segment) (suc segment) more
 -- ---- second, the dispatcher is given the packets that were kept for it
 
 -- a packet that isn't the next one: it is answered alone
-abbrev pub heard : State → Slip → Conn → State
-heard st slip conn =
+abbrev pub heard : State → Datagram → Conn → State
+heard st d conn =
     record st {
       sends = st.sends + 1;
-      answers = st.answers ++ kept st.drops (st.sends + 1) (got conn.key conn.taken);
-      nodes = noted st.nodes 0 (record { ask = Arrive slip; reply = Came (got conn.key conn.taken ∷ []) });
+      answers = st.answers ++ kept st.drops (st.sends + 1) (ack_of conn.key conn.taken);
+      nodes = noted st.nodes 0 (record { ask = Arrive d; reply = Came (ack_of conn.key conn.taken ∷ []) });
     }
+
+-- what is taken with a packet that reads as this header and body
+abbrev pub parcel_of : ConnKey → Header × List ℕ → Parcel
+parcel_of key r = record { from = key.from; payload = r.1; last = is_last r.0.flags }
 
 -- the next packet: it is taken, and answered with that
-abbrev pub took : State → Slip → ℕ → Conn → State
-took st slip segment conn =
+abbrev pub took : State → Datagram → ℕ → Conn → Header × List ℕ → State
+took st d segment conn r =
     record st {
-      conns = slice_set st.conns segment (record conn { taken = slip.seq });
+      conns = slice_set st.conns segment (record conn { taken = r.0.seq });
       sends = st.sends + 1;
-      answers = st.answers ++ kept st.drops (st.sends + 1) (got conn.key slip.seq);
-      nodes = noted (noted st.nodes 0 (record { ask = Arrive slip; reply = Came [] })) 0
-          (record { ask = TakeFrom conn.key; reply = Took (parcel_of conn.key.from slip.kind) (got conn.key slip.seq ∷ []) });
-      rows = st.rows ++ rows_in (row_of slip.kind);
+      answers = st.answers ++ kept st.drops (st.sends + 1) (ack_of conn.key r.0.seq);
+      nodes = noted (noted st.nodes 0 (record { ask = Arrive d; reply = Came [] })) 0
+          (record { ask = TakeFrom conn.key; reply = Took (parcel_of conn.key r) (ack_of conn.key r.0.seq ∷ []) });
     }
 
-abbrev pub heard_at : State → Slip → Option Conn → State
-heard_at st slip None = st
-heard_at st slip (Some conn) = heard st slip conn
+abbrev pub heard_at : State → Datagram → Option Conn → State
+heard_at st d None = st
+heard_at st d (Some conn) = heard st d conn
 
-abbrev pub took_at : State → Slip → ℕ → Option Conn → State
-took_at st slip segment None = st
-took_at st slip segment (Some conn) = took st slip segment conn
+abbrev pub took_at : State → Datagram → ℕ → Header × List ℕ → Option Conn → State
+took_at st d segment r None = st
+took_at st d segment r (Some conn) = took st d segment conn r
 
-abbrev pub arrive_at : State → Slip → ℕ → Option Conn → State
-arrive_at st slip segment None = st
-arrive_at st slip segment (Some conn) = if is_next conn slip.seq then took st slip segment conn else heard st slip conn
+abbrev pub arrive_at : State → Datagram → ℕ → Header × List ℕ → Option Conn → State
+arrive_at st d segment r None = st
+arrive_at st d segment r (Some conn) = if is_next conn r.0.seq then took st d segment conn r else heard st d conn
 
-abbrev pub arrive_from : State → Slip → Option ℕ → State
-arrive_from st slip None = st
-arrive_from st slip (Some segment) = arrive_at st slip segment (slice_get st.conns segment)
+abbrev pub arrive_read : State → Datagram → ℕ → Result (Header × List ℕ) HeaderFault → State
+arrive_read st d segment (Err fault) = st
+arrive_read st d segment (Ok r) = arrive_at st d segment r (slice_get st.conns segment)
 
--- one from no segment changes nothing
-abbrev pub arrive : State → Slip → State
-arrive st slip = arrive_from st slip (place_of slip.from)
+abbrev pub arrive_from : State → Datagram → Option ℕ → State
+arrive_from st d None = st
+arrive_from st d (Some segment) = arrive_read st d segment (read_header d.bytes)
 
-abbrev pub arrivals : State → List Slip → State
+-- one from no segment, and one that doesn't read as a packet, change nothing
+abbrev pub arrive : State → Datagram → State
+arrive st d = arrive_from st d (place_of d.from)
+
+abbrev pub arrivals : State → List Datagram → State
 arrivals st [] = st
-arrivals st (slip ∷ slips) = arrivals (arrive st slip) slips
+arrivals st (d ∷ ds) = arrivals (arrive st d) ds
 
 unfoldable pub all_arrive : State → State
 all_arrive st = arrivals (record st { packets = [] }) st.packets
@@ -179,24 +173,28 @@ all_arrive st = arrivals (record st { packets = [] }) st.packets
 abbrev pub freed : Conn → ℕ → Conn
 freed conn number = record conn { waiting = conn.waiting && not (number == conn.next) }
 
-abbrev pub answer_at : State → Slip → ℕ → Option Conn → State
-answer_at st slip segment None = st
-answer_at st slip segment (Some conn) =
+abbrev pub answer_at : State → Datagram → ℕ → Header × List ℕ → Option Conn → State
+answer_at st d segment r None = st
+answer_at st d segment r (Some conn) =
     record st {
-      conns = slice_set st.conns segment (freed conn slip.seq);
-      nodes = noted st.nodes (segment + 1) (record { ask = Arrive slip; reply = Came [] });
+      conns = slice_set st.conns segment (freed conn r.0.seq);
+      nodes = noted st.nodes (segment + 1) (record { ask = Arrive d; reply = Came [] });
     }
 
-abbrev pub answer_to : State → Slip → Option ℕ → State
-answer_to st slip None = st
-answer_to st slip (Some segment) = answer_at st slip segment (slice_get st.conns segment)
+abbrev pub answer_read : State → Datagram → ℕ → Result (Header × List ℕ) HeaderFault → State
+answer_read st d segment (Err fault) = st
+answer_read st d segment (Ok r) = answer_at st d segment r (slice_get st.conns segment)
 
-abbrev pub answer : State → Slip → State
-answer st slip = answer_to st slip (place_of slip.to)
+abbrev pub answer_to : State → Datagram → Option ℕ → State
+answer_to st d None = st
+answer_to st d (Some segment) = answer_read st d segment (read_header d.bytes)
 
-abbrev pub answers_of : State → List Slip → State
+abbrev pub answer : State → Datagram → State
+answer st d = answer_to st d (place_of d.to)
+
+abbrev pub answers_of : State → List Datagram → State
 answers_of st [] = st
-answers_of st (slip ∷ slips) = answers_of (answer st slip) slips
+answers_of st (d ∷ ds) = answers_of (answer st d) ds
 
 unfoldable pub all_answered : State → State
 all_answered st = answers_of (record st { answers = [] }) st.answers
@@ -210,13 +208,13 @@ ticked st segment conn =
       nodes = noted st.nodes (segment + 1) (record { ask = Tick; reply = Ticked [] });
     }
 
-abbrev pub resent : State → ℕ → Conn → Slip → State
-resent st segment conn slip =
+abbrev pub resent : State → ℕ → Conn → State
+resent st segment conn =
     record st {
       conns = slice_set st.conns segment (record conn { waited = 0; resent = conn.resent + 1 });
       sends = st.sends + 1;
-      packets = st.packets ++ kept st.drops (st.sends + 1) slip;
-      nodes = noted st.nodes (segment + 1) (record { ask = Tick; reply = Ticked (slip ∷ []) });
+      packets = st.packets ++ kept st.drops (st.sends + 1) (packet conn (conn.next - 1));
+      nodes = noted st.nodes (segment + 1) (record { ask = Tick; reply = Ticked (packet conn (conn.next - 1) ∷ []) });
     }
 
 abbrev pub ticked_at : State → ℕ → Option Conn → State
@@ -225,10 +223,10 @@ ticked_at st segment (Some conn) = ticked st segment conn
 
 abbrev pub resent_at : State → ℕ → Option Conn → State
 resent_at st segment None = st
-resent_at st segment (Some conn) = resent st segment conn (packet conn (conn.next - 1))
+resent_at st segment (Some conn) = resent st segment conn
 
 abbrev pub wait_with : State → ℕ → Conn → State
-wait_with st segment conn = if is_patient conn then ticked st segment conn else resent st segment conn (packet conn (conn.next - 1))
+wait_with st segment conn = if is_patient conn then ticked st segment conn else resent st segment conn
 
 abbrev pub wait_from : State → ℕ → Option Conn → State
 wait_from st segment None = st
@@ -254,13 +252,17 @@ abbrev pub rounds_of : ℕ → State → State
 rounds_of zero st = st
 rounds_of (suc count) st = if list_all is_done st.conns then st else rounds_of count (round st)
 
+-- the chunks of rows in packets of the default size, each by its bytes
+abbrev pub cut : List (List Value) → List (List ℕ)
+cut rows = map spelled (flat_map (λ row. chunks_of 8192 (spelling_of row)) rows)
+
 -- the connections of the parts, of which the first is this segment's
-abbrev pub new_conns : ℕ → ℕ → List (List (List ℤ)) → List Conn
+abbrev pub new_conns : ℕ → ℕ → List (List (List Value)) → List Conn
 new_conns session segment [] = []
-new_conns session segment (part ∷ parts) = new_conn (gather_key session (pos segment)) part ∷ new_conns session (suc segment) parts
+new_conns session segment (part ∷ parts) = new_conn (gather_key session (pos segment)) (length part) (cut part) ∷ new_conns session (suc segment) parts
 
 -- before the first round
-abbrev pub start : ℕ → List ℕ → List (List (List ℤ)) → State
+abbrev pub start : ℕ → List ℕ → List (List (List Value)) → State
 start session drops parts =
     record {
       conns = new_conns session 0 parts;
@@ -269,9 +271,8 @@ start session drops parts =
       packets = [];
       answers = [];
       nodes = replicate (length parts + 1) [];
-      rows = [];
     }
 
 -- whether each end was taken and acknowledged after so many rounds
-unfoldable pub is_over : ℕ → ℕ → List ℕ → List (List (List ℤ)) → Bool
+unfoldable pub is_over : ℕ → ℕ → List ℕ → List (List (List Value)) → Bool
 is_over count session drops parts = list_all is_done (rounds_of count (start session drops parts)).conns

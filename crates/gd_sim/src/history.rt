@@ -1,45 +1,47 @@
 // What each node was asked, and what it replied.
 ghost use Rattle.std.specs.Prelude.{◌≡◌, ℕ, List, [], ◌∷◌, ◌++◌, length, IfOk, OnOk, OnErr};
 
-use crate::rows::Row;
-use crate::slip::{Slip, Slips};
-use ic_base::{ConnKey, SegId};
+use crate::datagram::{Datagram, Datagrams};
+use ic_base::{Bytes, ConnKey, SegId};
 use std::alloc::{AllocError, Global};
 use std::marker::Model;
 
-/// What the receiver took from one sender: a row, or with `None` the end of the stream.
+/// What the receiver took from one sender: the body of one packet.
 #[derive(Drop)]
 pub struct Parcel {
     pub from: SegId,
-    pub row: Option<Row>,
+    /// Tuple chunks.
+    pub payload: Bytes,
+    /// Whether the packet was flagged as the last one of its stream.
+    pub last: bool,
 }
 
 /// One ask to a node.
 #[derive(Drop)]
 pub enum HubAsk {
-    /// The sender puts a row on its connection.
-    Put { key: ConnKey, row: Row },
+    /// The sender puts a chunk on its connection, by its bytes.
+    Put { key: ConnKey, chunk: Bytes },
     /// The sender puts the end of the stream.
     Finish { key: ConnKey },
     /// The receiver takes the next parcel of this connection.
     TakeFrom { key: ConnKey },
-    /// The network hands a slip over.
-    Arrive { slip: Slip },
+    /// The network hands a datagram over.
+    Arrive { datagram: Datagram },
     /// A round of waiting has passed at a sender with an unacknowledged packet.
     Tick,
 }
 
-/// The node's reply. Each variant has the slips that the node emits with it.
+/// The node's reply. Each variant has the datagrams that the node emits with it.
 #[derive(Drop)]
 pub enum HubReply {
     /// To a `Put` or a `Finish`: it was taken over.
-    Gave(Slips),
+    Gave(Datagrams),
     /// To a `TakeFrom`.
-    Took(Parcel, Slips),
+    Took(Parcel, Datagrams),
     /// To an `Arrive`.
-    Came(Slips),
+    Came(Datagrams),
     /// To a `Tick`.
-    Ticked(Slips),
+    Ticked(Datagrams),
 }
 
 /// One ask with its reply.

@@ -1,19 +1,22 @@
-// The rounds.
-ghost use Rattle.std.specs.Prelude.{◌≡◌, ◌<◌, ◌+◌, ◌++◌, ℕ, length, OnOk, IfOk, slice_get};
+// The rounds: senders, the network and what the nodes were asked. What the dispatcher makes of payloads is beside it.
+ghost use Rattle.std.specs.Prelude.{◌≡◌, ◌<◌, ◌+◌, ◌++◌, ℕ, List, [], length, OnOk, IfOk, Option, slice_get};
 ghost use Rattle.std.specs.List.{list_all};
+ghost use Rattle.std.specs.Option.{option_map};
+ghost use Rattle.ic_header.specs.declared.header.Header.{Header};
 ghost use Rattle.gd_sim.specs.Keys.{place_of};
-ghost use Rattle.gd_sim.specs.Rounds.{State, is_lost, kept, is_done, send, heard_at, took_at, arrive, answer, wait, ticked_at, resent_at, sends_of, all_arrive, all_answered, all_wait, round, rounds_of, row_of, rows_in};
+ghost use Rattle.gd_sim.specs.Rounds.{State, is_lost, kept, is_done, send, heard_at, took_at, arrive, arrive_at, answer, answer_at, wait, ticked_at, resent_at, sends_of, all_answered, all_wait};
+ghost use Rattle.gd_sim.specs.Taking.{taking, taken_by, taken_at};
 
-use crate::conn::{Conn, ask_for, got_for, parcel_for};
-use crate::history::{Histories, HubAsk, HubReply};
-use crate::rows::Rows;
-use crate::slip::{Slip, SlipKind, Slips};
-use ic_base::{Drops, SegId};
+use crate::conn::{Conn, ack_for, is_last};
+use crate::datagram::{Datagram, Datagrams};
+use crate::history::{Histories, HubAsk, HubReply, Parcel};
+use ic_base::{Bytes, Drops, SegId};
+use ic_header::{Header, read};
 use std::alloc::{AllocError, Global};
 use std::marker::Model;
 use std::mem;
 
-/// The nodes, the network between them, and what each node was asked.
+/// The senders, the network, and what each node was asked.
 #[derive(Drop)]
 pub struct Sim {
     pub alloc: Global,
@@ -22,11 +25,10 @@ pub struct Sim {
     /// Sends so far, lost ones too.
     pub sends: u64,
     /// What is kept for the dispatcher, in the order of the sends.
-    pub packets: Slips,
+    pub packets: Datagrams,
     /// What is kept for the segments, in the order of the sends.
-    pub answers: Slips,
+    pub answers: Datagrams,
     pub nodes: Histories,
-    pub rows: Rows,
 }
 
 impl Model for Sim {
@@ -42,10 +44,16 @@ impl Model for Sim {
       packets = s.packets;
       answers = s.answers;
       nodes = s.nodes;
-      rows = s.rows;
     } };
 
     ghost invariant = { λ s. length s.nodes ≡ length s.conns.items + 1 };
+}
+
+/// What the dispatcher takes from a segment: the payload of its next packet.
+#[derive(Drop)]
+pub struct Taken {
+    pub segment: usize,
+    pub payload: Bytes,
 }
 
 /// The place of a segment, from 0, and none for the dispatcher.
@@ -81,22 +89,18 @@ fn is_lost(drops: &Drops, number: u64) -> bool
 }
 
 /// The send of this number, which the network loses or keeps.
-fn keep(slips: &mut Slips, drops: &Drops, number: u64, slip: Slip) -> Result<(), AllocError>
-    ensures { OnOk result (slips.new ≡ slips.old ++ kept drops.now number slip) }
+fn keep(
+    datagrams: &mut Datagrams,
+    drops: &Drops,
+    number: u64,
+    datagram: Datagram,
+) -> Result<(), AllocError>
+    ensures { OnOk result (datagrams.new ≡ datagrams.old ++ kept drops.now number datagram) }
 {
     if is_lost(drops, number) {
         Ok(())
     } else {
-        slips.push(slip)
-    }
-}
-
-fn push_row(rows: &mut Rows, kind: &SlipKind) -> Result<(), AllocError>
-    ensures { OnOk result (rows.new ≡ rows.old ++ rows_in (row_of kind.now)) }
-{
-    match kind {
-        SlipKind::One(row) => rows.push(row.share()?),
-        _ => Ok(()),
+        datagrams.push(datagram)
     }
 }
 
@@ -110,13 +114,15 @@ impl Sim {
         if !conn.is_ready() {
             return Ok(());
         }
-        let slip = conn.packet(conn.next)?;
-        let ask = ask_for(conn.key, &slip.kind)?;
-        let seq = slip.seq;
+        let Some(seq) = conn.next.checked_add(1) else {
+            return Err(AllocError);
+        };
+        let packet = conn.packet(self.alloc, conn.next)?;
+        let ask = conn.ask(conn.next)?;
         let number = number_after(self.sends)?;
-        let reply = HubReply::Gave(Slips::one(self.alloc, slip.share()?)?);
+        let reply = HubReply::Gave(Datagrams::one(self.alloc, packet.share()?)?);
         self.nodes.note(segment + 1, ask, reply)?;
-        keep(&mut self.packets, &self.drops, number, slip)?;
+        keep(&mut self.packets, &self.drops, number, packet)?;
         self.sends = number;
         let conn = &mut self.conns[segment];
         conn.next = seq;
@@ -126,79 +132,119 @@ impl Sim {
     }
 
     /// The dispatcher is given a packet that isn't the next one, and answers it.
-    fn hear(&mut self, slip: &Slip, segment: usize) -> Result<(), AllocError>
+    fn hear(&mut self, datagram: &Datagram, segment: usize) -> Result<(), AllocError>
         requires { segment < length self.old.conns }
-        ensures { OnOk result (self.new ≡ heard_at self.old slip.now (slice_get self.old.conns segment)) }
+        ensures { OnOk result (self.new ≡ heard_at self.old datagram.now (slice_get self.old.conns segment)) }
     {
         let conn = &self.conns[segment];
-        let got = got_for(conn.key, conn.taken);
+        let ack = ack_for(self.alloc, conn.key, conn.taken)?;
         let number = number_after(self.sends)?;
-        let reply = HubReply::Came(Slips::one(self.alloc, got.share()?)?);
-        let slip = slip.share()?;
-        self.nodes.note(0, HubAsk::Arrive { slip }, reply)?;
-        keep(&mut self.answers, &self.drops, number, got)?;
+        let reply = HubReply::Came(Datagrams::one(self.alloc, ack.share()?)?);
+        let datagram = datagram.share()?;
+        self.nodes.note(0, HubAsk::Arrive { datagram }, reply)?;
+        keep(&mut self.answers, &self.drops, number, ack)?;
         self.sends = number;
         Ok(())
     }
 
-    /// The dispatcher is given the next packet, takes it, and answers it.
-    fn take(&mut self, slip: &Slip, segment: usize) -> Result<(), AllocError>
+    /// The dispatcher is given the next packet, takes its payload, and answers it.
+    fn take(
+        &mut self,
+        datagram: &Datagram,
+        segment: usize,
+        header: Header,
+        payload: Bytes,
+    ) -> Result<(), AllocError>
         requires { segment < length self.old.conns }
-        ensures { OnOk result (self.new ≡ took_at self.old slip.now segment (slice_get self.old.conns segment)) }
+        ensures { OnOk result (self.new ≡ took_at self.old datagram.now segment (header, payload) (slice_get self.old.conns segment)) }
     {
         let key = self.conns[segment].key;
-        let got = got_for(key, slip.seq);
-        let parcel = parcel_for(key.from, &slip.kind)?;
+        let ack = ack_for(self.alloc, key, header.seq)?;
+        let parcel = Parcel {
+            from: key.from,
+            payload,
+            last: is_last(header.flags),
+        };
         let number = number_after(self.sends)?;
-        let reply = HubReply::Took(parcel, Slips::one(self.alloc, got.share()?)?);
-        push_row(&mut self.rows, &slip.kind)?;
-        let arrived = slip.share()?;
-        let silent = HubReply::Came(Slips::new(self.alloc));
-        self.nodes
-            .note(0, HubAsk::Arrive { slip: arrived }, silent)?;
+        let reply = HubReply::Took(parcel, Datagrams::one(self.alloc, ack.share()?)?);
+        let datagram = datagram.share()?;
+        let silent = HubReply::Came(Datagrams::new(self.alloc));
+        self.nodes.note(0, HubAsk::Arrive { datagram }, silent)?;
         self.nodes.note(0, HubAsk::TakeFrom { key }, reply)?;
-        keep(&mut self.answers, &self.drops, number, got)?;
+        keep(&mut self.answers, &self.drops, number, ack)?;
         self.sends = number;
         let conn = &mut self.conns[segment];
-        conn.taken = slip.seq;
+        conn.taken = header.seq;
         Ok(())
     }
 
-    /// The dispatcher is given a packet. One that is from no segment changes nothing.
-    fn arrive(&mut self, slip: &Slip) -> Result<(), AllocError>
-        ensures { OnOk result (self.new ≡ arrive self.old slip.now) }
+    /// The dispatcher is given a packet of this segment, which reads as this header and body.
+    fn arrive_at(
+        &mut self,
+        datagram: &Datagram,
+        segment: usize,
+        header: Header,
+        body: &[u8],
+    ) -> Result<Option<Taken>, AllocError>
+        requires { segment < length self.old.conns }
+        ensures state { OnOk result (self.new ≡ arrive_at self.old datagram.now segment (header, body.now) (slice_get self.old.conns segment)) }
+        ensures taken { IfOk result (λ t. option_map taking t ≡ taken_at segment (header, body.now) (slice_get self.old.conns segment)) }
     {
-        let Some(segment) = place(slip.from) else {
-            return Ok(());
-        };
-        if segment >= self.conns.len() {
-            return Ok(());
-        }
-        if self.conns[segment].is_next(slip.seq) {
-            self.take(slip, segment)
+        if self.conns[segment].is_next(header.seq) {
+            let payload = Bytes::from_slice(self.alloc, body)?;
+            self.take(datagram, segment, header, payload.share()?)?;
+            Ok(Some(Taken { segment, payload }))
         } else {
-            self.hear(slip, segment)
+            self.hear(datagram, segment)?;
+            Ok(None)
         }
     }
 
-    /// A segment is given an acknowledgement. One to no segment changes nothing.
-    fn answer(&mut self, slip: &Slip) -> Result<(), AllocError>
-        ensures { OnOk result (self.new ≡ answer self.old slip.now) }
+    /// The dispatcher is given a packet. One that is from no segment, or doesn't read as one, changes nothing.
+    pub fn arrive(&mut self, datagram: &Datagram) -> Result<Option<Taken>, AllocError>
+        ensures state { OnOk result (self.new ≡ arrive self.old datagram.now) }
+        ensures taken { IfOk result (λ t. option_map taking t ≡ taken_by self.old datagram.now) }
     {
-        let Some(segment) = place(slip.to) else {
-            return Ok(());
+        let Some(segment) = place(datagram.from) else {
+            return Ok(None);
         };
         if segment >= self.conns.len() {
-            return Ok(());
+            return Ok(None);
         }
-        let seq = slip.seq;
-        let slip = slip.share()?;
-        let silent = HubReply::Came(Slips::new(self.alloc));
+        match read(datagram.bytes.as_slice()) {
+            Ok((header, body)) => self.arrive_at(datagram, segment, header, body),
+            Err(_) => Ok(None),
+        }
+    }
+
+    /// A segment is given an acknowledgement of this number.
+    fn free(&mut self, datagram: &Datagram, segment: usize, seq: u32) -> Result<(), AllocError>
+        requires { segment < length self.old.conns }
+        ensures { OnOk result ((r : Header × List ℕ) → r.0.seq ≡ seq → self.new ≡ answer_at self.old datagram.now segment r (slice_get self.old.conns segment)) }
+    {
+        let datagram = datagram.share()?;
+        let silent = HubReply::Came(Datagrams::new(self.alloc));
         self.nodes
-            .note(segment + 1, HubAsk::Arrive { slip }, silent)?;
+            .note(segment + 1, HubAsk::Arrive { datagram }, silent)?;
         let conn = &mut self.conns[segment];
         conn.waiting = conn.waiting && seq != conn.next;
         Ok(())
+    }
+
+    /// A segment is given an acknowledgement. One to no segment, or that doesn't read as one, changes nothing.
+    fn answer(&mut self, datagram: &Datagram) -> Result<(), AllocError>
+        ensures { OnOk result (self.new ≡ answer self.old datagram.now) }
+    {
+        let Some(segment) = place(datagram.to) else {
+            return Ok(());
+        };
+        if segment >= self.conns.len() {
+            return Ok(());
+        }
+        match read(datagram.bytes.as_slice()) {
+            Ok((header, _)) => self.free(datagram, segment, header.seq),
+            Err(_) => Ok(()),
+        }
     }
 
     /// One more round of waiting.
@@ -209,7 +255,7 @@ impl Sim {
         let Some(waited) = self.conns[segment].waited.checked_add(1) else {
             return Err(AllocError);
         };
-        let silent = HubReply::Ticked(Slips::new(self.alloc));
+        let silent = HubReply::Ticked(Datagrams::new(self.alloc));
         self.nodes.note(segment + 1, HubAsk::Tick, silent)?;
         let conn = &mut self.conns[segment];
         conn.waited = waited;
@@ -222,12 +268,12 @@ impl Sim {
         ensures { OnOk result (self.new ≡ resent_at self.old segment (slice_get self.old.conns segment)) }
     {
         let conn = &self.conns[segment];
-        let slip = conn.packet(conn.next.saturating_sub(1))?;
+        let packet = conn.packet(self.alloc, conn.next.saturating_sub(1))?;
         let number = number_after(self.sends)?;
         let resent = number_after(conn.resent)?;
-        let reply = HubReply::Ticked(Slips::one(self.alloc, slip.share()?)?);
+        let reply = HubReply::Ticked(Datagrams::one(self.alloc, packet.share()?)?);
         self.nodes.note(segment + 1, HubAsk::Tick, reply)?;
-        keep(&mut self.packets, &self.drops, number, slip)?;
+        keep(&mut self.packets, &self.drops, number, packet)?;
         self.sends = number;
         let conn = &mut self.conns[segment];
         conn.waited = 0;
@@ -251,7 +297,7 @@ impl Sim {
         }
     }
 
-    fn send_all(&mut self) -> Result<(), AllocError>
+    pub fn send_all(&mut self) -> Result<(), AllocError>
         ensures { OnOk result (self.new ≡ sends_of self.old 0 (length self.old.conns)) }
     {
         for segment in 0..self.conns.len() {
@@ -260,29 +306,18 @@ impl Sim {
         Ok(())
     }
 
-    #[tactic(auto, unfolding(crate::specs::Rounds::all_arrive))]
-    fn arrive_all(&mut self) -> Result<(), AllocError>
-        ensures { OnOk result (self.new ≡ all_arrive self.old) }
-    {
-        let packets = mem::replace(&mut self.packets, Slips::new(self.alloc));
-        for slip in packets.as_slice() {
-            self.arrive(slip)?;
-        }
-        Ok(())
-    }
-
     #[tactic(auto, unfolding(crate::specs::Rounds::all_answered))]
-    fn answer_all(&mut self) -> Result<(), AllocError>
+    pub fn answer_all(&mut self) -> Result<(), AllocError>
         ensures { OnOk result (self.new ≡ all_answered self.old) }
     {
-        let answers = mem::replace(&mut self.answers, Slips::new(self.alloc));
-        for slip in answers.as_slice() {
-            self.answer(slip)?;
+        let answers = mem::replace(&mut self.answers, Datagrams::new(self.alloc));
+        for datagram in answers.as_slice() {
+            self.answer(datagram)?;
         }
         Ok(())
     }
 
-    fn wait_all(&mut self) -> Result<(), AllocError>
+    pub fn wait_all(&mut self) -> Result<(), AllocError>
         ensures { OnOk result (self.new ≡ all_wait self.old) }
     {
         for segment in 0..self.conns.len() {
@@ -291,31 +326,17 @@ impl Sim {
         Ok(())
     }
 
-    fn round(&mut self) -> Result<(), AllocError>
-        ensures { OnOk result (self.new ≡ round self.old) }
+    /// What is kept for the dispatcher, which is given it now.
+    pub fn packets_taken(&mut self) -> Datagrams
+        ensures state { self.new ≡ record self.old { packets = [] } }
+        ensures packets { result ≡ self.old.packets }
     {
-        self.send_all()?;
-        self.arrive_all()?;
-        self.answer_all()?;
-        self.wait_all()
+        mem::replace(&mut self.packets, Datagrams::new(self.alloc))
     }
 
-    fn is_over(&self) -> bool
+    pub fn is_over(&self) -> bool
         ensures { result ≡ list_all is_done self.now.conns }
     {
         self.conns.iter().all(|conn| conn.is_done())
-    }
-
-    /// Rounds until the run is over, at most so many. Tells whether it is over.
-    pub fn run(&mut self, count: u64) -> Result<bool, AllocError>
-        ensures { IfOk result (λ over. (self.new ≡ rounds_of count self.old) × (over ≡ list_all is_done self.new.conns)) }
-    {
-        for _ in 0..count {
-            if self.is_over() {
-                return Ok(true);
-            }
-            self.round()?;
-        }
-        Ok(self.is_over())
     }
 }

@@ -1,41 +1,82 @@
 // What no clause says: that memory serves, in which order rows come, and what a lost send costs.
 ghost use Rattle.std.specs.Prelude.{◌≡◌, length, IfOk};
+ghost use Rattle.std.specs.List.{All};
+ghost use Rattle.ic_row.specs.Spelling.{HasLengths};
 
-use crate::{FirstNo, FirstRun, Parts, Row, Rows, first_run};
-use ic_base::Drops;
+use crate::{FirstNo, FirstRun, HubReply, Parts, first_run};
+use ic_base::{Drops, Text};
+use ic_row::{Row, Rows, Value};
 use std::alloc::{AllocError, Global};
+use std::test::Fail;
 
-/// Rows of one column.
-fn column(alloc: Global, values: &[i64]) -> Result<Rows, AllocError> {
-    let mut rows = Rows::new(alloc);
-    for value in values {
-        rows.push(Row::from_vec(alloc, Vec::from_slice(alloc, &[*value])?)?)?;
+/// A row of one integer.
+fn int_row(alloc: Global, n: i64) -> Result<Row, AllocError>
+    ensures { IfOk result (λ row. HasLengths row) }
+{
+    Ok(Row::from_vec(vec![in alloc; Value::Int(n)]?))
+}
+
+/// A row of one text of so many letters, at most 65535.
+fn text_row(alloc: Global, letters: u16) -> Result<Row, AllocError>
+    ensures { IfOk result (λ row. HasLengths row) }
+{
+    let mut text = String::new(alloc);
+    for place in 0..letters {
+        text.push_str(if place % 7 == 0 { "a" } else { "b" })?;
     }
-    Ok(rows)
+    let text = Text::from_string(text);
+    if text.len() > 65535 {
+        return Err(AllocError);
+    }
+    Ok(Row::from_vec(vec![in alloc; Value::Chars(text)]?))
+}
+
+/// Two rows of one column.
+fn column(alloc: Global, first: i64, second: i64) -> Result<Rows, AllocError>
+    ensures { IfOk result (λ rows. All HasLengths rows) }
+{
+    let first = int_row(alloc, first)?;
+    let second = int_row(alloc, second)?;
+    Ok(Rows::from_vec(vec![in alloc; first, second]?))
 }
 
 /// The rows of two segments.
-fn two_parts(alloc: Global, first: &[i64], second: &[i64]) -> Result<Parts, AllocError>
-    ensures { IfOk result (λ p. length p ≡ 2) }
+fn two_parts(alloc: Global, first: Rows, second: Rows) -> Result<Parts, AllocError>
+    requires first { All HasLengths first }
+    requires second { All HasLengths second }
+    ensures two { IfOk result (λ p. length p ≡ 2) }
+    ensures lengths { IfOk result (λ p. All (All HasLengths) p) }
 {
-    let first = column(alloc, first)?;
-    let second = column(alloc, second)?;
     Ok(Parts::from_vec(vec![in alloc; first, second]?))
+}
+
+/// One row of one long text at segment 0, and none elsewhere.
+fn long_parts(alloc: Global, letters: u16) -> Result<Parts, AllocError>
+    ensures one { IfOk result (λ p. length p ≡ 1) }
+    ensures lengths { IfOk result (λ p. All (All HasLengths) p) }
+{
+    let row = text_row(alloc, letters)?;
+    let rows = Rows::from_vec(vec![in alloc; row]?);
+    Ok(Parts::from_vec(vec![in alloc; rows]?))
 }
 
 /// Four rows dealt to two segments, gathered over a network that loses these sends.
 fn gathered(alloc: Global, drops: &[u32], rounds: u64) -> Result<FirstRun, FirstNo> {
-    let parts = two_parts(alloc, &[10, 12], &[11, 13])?;
+    let first = column(alloc, 10, 12)?;
+    let second = column(alloc, 11, 13)?;
+    let parts = two_parts(alloc, first, second)?;
     let drops = Drops::from_vec(Vec::from_slice(alloc, drops)?);
     first_run(alloc, 7, 1, &parts, &drops, rounds)
 }
 
-/// The values of rows of one column.
+/// The integers of rows, in order.
 fn values(alloc: Global, rows: &Rows) -> Result<Vec<i64>, AllocError> {
     let mut values = Vec::new(alloc);
     for row in rows.as_slice() {
         for value in row.as_slice() {
-            values.push(*value)?;
+            if let Value::Int(n) = value {
+                values.push(*n)?;
+            }
         }
     }
     Ok(values)
@@ -78,7 +119,7 @@ fn each_row_comes_once_whatever_is_lost(rt: HostRuntime) {
 #[test]
 fn a_segment_without_rows_sends_its_end_alone(rt: HostRuntime) {
     let alloc = rt.alloc();
-    let parts = two_parts(alloc, &[], &[]).expect(&rt, "memory");
+    let parts = two_parts(alloc, Rows::new(alloc), Rows::new(alloc)).expect(&rt, "memory");
     let run = first_run(alloc, 7, 1, &parts, &Drops::new(alloc), 2).expect(&rt, "two rounds serve");
     assert_eq!(rt; run.rows.as_slice().len(), 0);
     for tally in run.tallies.as_slice() {
@@ -104,4 +145,63 @@ fn three_rounds_are_just_enough_for_two_rows_and_the_end(rt: HostRuntime) {
         gathered(rt.alloc(), &[], 3).is_ok(),
         "three rounds weren't enough"
     );
+}
+
+/// The bytes of the only text of the only row, and none where there is another row or value.
+fn only_text(rows: &Rows) -> Option<&[u8]> {
+    let [row] = rows.as_slice() else {
+        return None;
+    };
+    match row.as_slice() {
+        [Value::Chars(text)] => Some(text.as_str().as_bytes()),
+        _ => None,
+    }
+}
+
+/// A row of 20007 bytes goes in chunks of at most 8120, each in a packet of its own, and the second one is lost.
+#[test]
+fn a_row_of_three_packets_comes_whole_under_a_loss(rt: HostRuntime) -> Result<(), Fail> {
+    let alloc = rt.alloc();
+    let parts = long_parts(alloc, 20000)?;
+    let drops = Drops::from_vec(Vec::from_slice(alloc, &[3])?);
+    let run = first_run(alloc, 7, 1, &parts, &drops, 100).expect(&rt, "100 rounds serve");
+    let text = only_text(&run.rows).ok_or("one row of one text")?;
+    assert_eq!(rt; text.len(), 20000);
+    for (place, byte) in text.iter().enumerate() {
+        assert_eq!(rt; *byte, if place % 7 == 0 { b'a' } else { b'b' });
+    }
+    assert_eq!(rt; run.tallies.as_slice().len(), 1);
+    for tally in run.tallies.as_slice() {
+        assert_eq!(rt; (tally.sent, tally.taken), (1, 1));
+        assert_eq!(rt; (tally.packets, tally.resent), (4, 1));
+        assert!(rt; tally.whole);
+    }
+    Ok(())
+}
+
+/// The packet of row [10] at segment 0: a header of 16 words, a chunk head, and the row's spelling.
+const FIRST: [u8; 79] = [
+    0, 0, 0, 1, 0, 0, 0, 0, 0, 0, 0, 0, 0, 0, 0, 0, 0, 0, 0, 0, 0, 0, 0, 7, 0, 0, 0, 1, 0, 0, 0, 0,
+    0, 0, 0, 1, 0, 0, 0, 0, 255, 255, 255, 255, 0, 0, 0, 0, 0, 0, 0, 0, 0, 0, 0, 79, 0, 0, 0, 1, 0,
+    0, 0, 0, 0, 11, 0, 0, 0, 1, 1, 0, 0, 0, 0, 0, 0, 0, 10,
+];
+
+/// The bytes of the datagram that a node emitted with its first entry, and none where that wasn't one.
+fn first_emitted(run: &FirstRun, node: usize) -> Option<&[u8]> {
+    let entry = run.histories.as_slice().get(node)?.as_slice().first()?;
+    match &entry.reply {
+        HubReply::Gave(datagrams) => match datagrams.as_slice() {
+            [datagram] => Some(datagram.bytes.as_slice()),
+            _ => None,
+        },
+        _ => None,
+    }
+}
+
+#[test]
+fn a_packet_is_a_header_a_chunk_head_and_the_row(rt: HostRuntime) -> Result<(), Fail> {
+    let run = gathered(rt.alloc(), &[], 100).expect(&rt, "100 rounds serve");
+    let bytes = first_emitted(&run, 1).ok_or("segment 0 emits first")?;
+    assert_eq!(rt; bytes, FIRST.as_slice());
+    Ok(())
 }

@@ -1,13 +1,15 @@
 -- A run over dealt rows delivers the document, and its lines are those of the answer.
-use Rattle.std.proofs.Common.{◌≡◌, ◌≢◌, ◌⊎◌, ℕ, zero, suc, ◌+◌, ◌<◌, ◌≤◌, ℤ, List, [], ◌∷◌, ◌++◌, length, take, map, get_or, Option, Some, None, Result, Ok, Err, IfSome, refl, ap, sym, ◌∙◌, subst, arith, inl, inr, true, append-nil}
+use Rattle.std.proofs.Common.{◌≡◌, ◌≢◌, ◌⊎◌, ℕ, zero, suc, ◌+◌, ◌<◌, ◌≤◌, List, [], ◌∷◌, ◌++◌, length, take, map, get_or, Option, Some, None, Result, Ok, Err, IfSome, refl, ap, sym, ◌∙◌, subst, arith, inl, inr, true, append-nil}
 use Rattle.std.specs.List.{concat}
 use Rattle.std.specs.Io.KnownBytes.{Appends}
 use Rattle.std.specs.List.Sorted.{IsPermutation}
 use Rattle.std.proofs.lemmas.List.Sorted.{IsPermutation-trans}
 use Rattle.ic_edge.specs.Causes.{Rose, TakesAFront}
 use Rattle.gd_sim.specs.declared.run.FirstRun.{FirstRun}
-use Rattle.gd_sim.specs.History.{history_at, let_out_of}
-use Rattle.gd_sim.specs.Run.{IsRun, IsServed, joined, tallies_of}
+use Rattle.gd_sim.specs.History.{history_at}
+use Rattle.ic_chunk.specs.Assembly.{together}
+use Rattle.gd_sim.specs.Laws.{LetsOut}
+use Rattle.gd_sim.specs.Run.{IsRun, IsServed, AreTallies}
 use Rattle.icq_top.specs.Deal.{rows_at, parts_from, dealt}
 use Rattle.icq_top.specs.Text.{row_text, tally_text}
 use Rattle.icq_top.specs.Print.{run_lines, WroteLines}
@@ -15,7 +17,8 @@ use Rattle.std.proofs.lemmas.Bool.Decides.{eqb_tells}
 use Rattle.ic_edge.proofs.Known.{Appends-trans}
 use Rattle.icq_top.proofs.Fronts.{front_behind}
 use Rattle.icq_top.specs.Words.{drops_of_words}
-use Rattle.icq_top.specs.Outcome.{Reads, outcome, status_of, Delivers, MayWrite, lines_of, text_of, error_text, status_of_stop, IsWritten, IsCutShort, HasCauses}
+use Rattle.icq_top.specs.Stops.{error_text, status_of_stop}
+use Rattle.icq_top.specs.Outcome.{Reads, outcome, status_of, Delivers, MayWrite, lines_of, text_of, IsWritten, IsCutShort, HasCauses}
 use Rattle.icq_top.specs.Outcome.MayWrite.{answer, line, cut}
 use Rattle.icq_top.specs.Work.{IsForm, IsRunOf, IsWorked, IsAnswered, Works}
 use Rattle.icq_top.specs.declared.form.FirstForm.{FirstForm}
@@ -26,7 +29,7 @@ use Rattle.icq_top.proofs.DealLemmas.{dealt_rows, length-parts_from}
 
 -- ---- a run over dealt rows
 
-part_at : (n k more i : ℕ) (rows : List (List ℤ)) → i < more → get_or (parts_from n k more rows) i [] ≡ rows_at n (k + i) rows
+part_at : {R : Type 0} (n k more i : ℕ) (rows : List R) → i < more → get_or (parts_from n k more rows) i [] ≡ rows_at n (k + i) rows
 part_at n k zero i rows lt = absurd (omega (arith, lt))
 part_at n k (suc more) zero rows lt = ap (λ s. rows_at n s rows) (omega arith)
 part_at n k (suc more) (suc i) rows lt = part_at n (suc k) more i rows (omega (arith, lt)) ∙ ap (λ s. rows_at n s rows) (omega arith)
@@ -36,40 +39,34 @@ run-of_form form run is x =
     let n = form.segments in
     let many : length (dealt n form.rows) ≡ n = length-parts_from n 0 n form.rows in
     record {
-      delivers = record {
-        nodes = x.nodes ∙ ap (λ k. k + 1) many;
-        network = x.network;
-        taking = x.taking;
-        served = λ s lt. let place : 0 + s ≡ s = omega arith in
-            subst (λ l. IsServed form.session s l run.histories) (part_at n 0 n s form.rows lt ∙ ap (λ k. rows_at n k form.rows) place) (x.served s (omega (arith, lt, many)));
-        answer = IsPermutation-trans _ _ _ (dealt_rows n form.rows is.some) (subst (IsPermutation (joined (dealt n form.rows))) x.rows x.answer);
-      };
-      rows = x.rows;
-      tallies = x.tallies ∙ ap (λ k. tallies_of form.session k run.histories) many;
+      nodes = x.nodes ∙ ap (λ k. k + 1) many;
+      network = x.network;
+      taking = x.taking;
+      served = λ s lt. let place : 0 + s ≡ s = omega arith in
+          subst (λ l. IsServed form.session s l run.histories) (part_at n 0 n s form.rows lt ∙ ap (λ k. rows_at n k form.rows) place) (x.served s (omega (arith, lt, many)));
+      lets_out = subst (λ k. LetsOut form.session k (history_at run.histories 0) run.rows) many x.lets_out;
+      answer = IsPermutation-trans _ _ _ (dealt_rows n form.rows is.some) x.answer;
+      told = subst (λ k. AreTallies form.session k run.histories run.tallies) many x.tallies;
     }
 
 -- ---- what is written
 
-lines-are : (form : FirstForm) (run : FirstRun) → IsRunOf form run → run_lines run ≡ lines_of form run.histories
-lines-are form run x = ap (λ l. map row_text l ++ map tally_text run.tallies) x.rows ∙ ap (λ l. map row_text (let_out_of (history_at run.histories 0)) ++ map tally_text l) x.tallies
-
 pub written-run : (words : List (List ℕ)) (left wrote_old wrote_new : Option (List ℕ)) (run : FirstRun) (status : ℕ) (told : Option Ended)
     → IsWorked words left run → IsAnswered wrote_old wrote_new run status told → status ≢ 5 → IsWritten words left wrote_old wrote_new status
 written-run words left wrote_old wrote_new run status told work x ne =
-    let same = lines-are work.form run work.run_of in
     elim x.statuses [
       | inl zero_it ↦ record {
-        text = text_of work.form run.histories;
-        may = subst (λ s. MayWrite words left s (text_of work.form run.histories)) (sym zero_it) (answer work.form run.histories work.reads work.run_of.delivers);
-        written = subst (λ l. Appends wrote_old wrote_new (concat l)) same (x.whole zero_it).1;
+        text = text_of run.rows run.tallies;
+        may = subst (λ s. MayWrite words left s (text_of run.rows run.tallies)) (sym zero_it) (answer work.form run.histories run.rows run.tallies work.reads work.run_of);
+        written = (x.whole zero_it).1;
       }
       | inr other ↦ elim other [
         | inl ten ↦
             let w = x.cut ten in
             record {
-              text = concat (take w.0 (lines_of work.form run.histories)) ++ error_text Memory;
-              may = subst (λ s. MayWrite words left s (concat (take w.0 (lines_of work.form run.histories)) ++ error_text Memory)) (sym ten) (cut work.form run.histories w.0 work.reads work.run_of.delivers);
-              written = subst (λ l. Appends wrote_old wrote_new (concat (take w.0 l) ++ error_text Memory)) same w.1;
+              text = concat (take w.0 (lines_of run.rows run.tallies)) ++ error_text Memory;
+              may = subst (λ s. MayWrite words left s (concat (take w.0 (lines_of run.rows run.tallies)) ++ error_text Memory)) (sym ten) (cut work.form run.histories run.rows run.tallies w.0 work.reads work.run_of);
+              written = w.1;
             }
         | inr five ↦ absurd (ne five)
       ]
@@ -96,21 +93,20 @@ pub cut-run : (words : List (List ℕ)) (left : Option (List ℕ)) (faults_old f
     → (drops_of_words words ≡ None → (Ok run ≡ Err Usage) ⊎ (Ok run ≡ Err Memory))
     → IsWorked words left run → IsAnswered wrote_old wrote_new run status told → status ≡ 5 → IsCutShort words left faults_old faults_new wrote_old wrote_new
 cut-run words left faults_old faults_new wrote_old wrote_new run status told usage work x five =
-    let same = lines-are work.form run work.run_of in
     elim (x.front five) [
       | inl whole ↦ record {
         status = 0;
         causes = run-causes words left faults_old faults_new 0 work.form run usage work.reads (λ _. refl) (λ bad. omega (arith, bad));
-        text = text_of work.form run.histories;
-        may = answer work.form run.histories work.reads work.run_of.delivers;
-        written = subst (λ l. TakesAFront wrote_old wrote_new (concat l)) same whole;
+        text = text_of run.rows run.tallies;
+        may = answer work.form run.histories run.rows run.tallies work.reads work.run_of;
+        written = whole;
       }
       | inr w ↦ record {
         status = 10;
         causes = run-causes words left faults_old faults_new 10 work.form run usage work.reads (λ ne. absurd (ne refl)) (λ bad. omega (arith, bad));
-        text = concat (take w.0 (lines_of work.form run.histories)) ++ error_text Memory;
-        may = cut work.form run.histories w.0 work.reads work.run_of.delivers;
-        written = subst (λ l. TakesAFront wrote_old wrote_new (concat (take w.0 l) ++ error_text Memory)) same w.1;
+        text = concat (take w.0 (lines_of run.rows run.tallies)) ++ error_text Memory;
+        may = cut work.form run.histories run.rows run.tallies w.0 work.reads work.run_of;
+        written = w.1;
       }
     ]
 

@@ -4,4 +4,5 @@ pub mod MemberLemmas
 pub mod Values
 pub mod DealLemmas
 pub mod Fronts
+pub mod Carried
 pub mod Delivering

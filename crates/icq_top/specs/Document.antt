@@ -1,9 +1,10 @@
 -- The document that the first path runs: one table of whole numbers, and one gather over its scan.
-use Rattle.std.specs.Prelude.{◌≡◌, ℕ, List, [], ◌∷◌, codes, Bool, false, ◌&&◌, if◌then◌else◌, Option, Some, None, Result, Ok, Err, ℤ}
+use Rattle.std.specs.Prelude.{◌≡◌, ℕ, List, [], ◌∷◌, codes, Bool, false, ◌&&◌, if◌then◌else◌, Option, Some, None, Result, Ok, Err}
 use Rattle.std.specs.Str.{is_utf8}
 use Rattle.serde_json.specs.Data.{Data}
 use Rattle.serde_json.specs.Find.{get}
 use Rattle.serde_json.specs.Read.{read}
+use Rattle.ic_row.specs.declared.value.Value.{Value}
 use Rattle.icq_top.specs.Steps.{◌>>=◌}
 use Rattle.icq_top.specs.Members.{has_only, number_at, sole_at, says}
 use Rattle.icq_top.specs.Table.{table_name, table_rows}
@@ -27,7 +28,7 @@ is_gather name d =
     && is_some_scan name (get (codes "child") d)
 
 -- the rows of a table that the query gathers
-abbrev pub gathered : Data → Data → Option (List (List ℤ))
+abbrev pub gathered : Data → Data → Option (List (List Value))
 gathered table query = table_name table >>= λ name. if is_gather name query then table_rows table else None
 
 -- an object with a session, segments, tables and queries, and nothing else

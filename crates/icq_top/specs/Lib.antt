@@ -4,7 +4,9 @@ pub mod Members
 pub mod Table
 pub mod Document
 pub mod Deal
+pub mod Laws
 pub mod Text
+pub mod Stops
 pub mod Print
 pub mod Outcome
 pub mod Work

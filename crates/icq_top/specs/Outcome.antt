@@ -4,11 +4,14 @@ use Rattle.std.specs.List.{concat}
 use Rattle.std.specs.Io.KnownBytes.{Appends}
 use Rattle.ic_edge.specs.Causes.{Rose, TakesAFront}
 use Rattle.gd_sim.specs.declared.history.Entry.{Entry}
-use Rattle.gd_sim.specs.History.{history_at, let_out_of}
-use Rattle.gd_sim.specs.Laws.{NetworkLaw, TakingLaw}
+use Rattle.ic_row.specs.declared.value.Value.{Value}
+use Rattle.gd_sim.specs.declared.tally.Tally.{Tally}
+use Rattle.gd_sim.specs.History.{history_at}
+use Rattle.gd_sim.specs.Laws.{NetworkLaw, TakingLaw, LetsOut}
 use Rattle.gd_sim.specs.Rounds.{is_over}
-use Rattle.gd_sim.specs.Run.{IsServed, tallies_of}
+use Rattle.gd_sim.specs.Run.{IsServed, AreTallies}
 use Rattle.icq_top.specs.Words.{drops_of_words}
+use Rattle.icq_top.specs.Stops.{status_of_stop, error_text}
 use Rattle.icq_top.specs.Document.{form_of}
 use Rattle.icq_top.specs.Deal.{rows_at, dealt}
 use Rattle.icq_top.specs.Text.{row_text, tally_text}
@@ -38,43 +41,30 @@ words_end (Some drops) bytes = bytes_end drops bytes
 abbrev pub outcome : List (List ℕ) → List ℕ → Result FirstForm Stop
 outcome words bytes = words_end (drops_of_words words) bytes
 
-abbrev pub status_of_stop : Stop → ℕ
-status_of_stop Usage = 1
-status_of_stop ReadFault = 4
-status_of_stop TooLong = 11
-status_of_stop NotBuilt = 15
-status_of_stop Unfinished = 9
-status_of_stop Memory = 10
-
 abbrev pub status_of : Result FirstForm Stop → ℕ
 status_of (Ok form) = 0
 status_of (Err stop) = status_of_stop stop
 
-abbrev pub error_text : Stop → List ℕ
-error_text Usage = codes "error 1 usage\n"
-error_text ReadFault = codes "error 4 read\n"
-error_text TooLong = codes "error 11 input too long\n"
-error_text NotBuilt = codes "error 15 not built\n"
-error_text Unfinished = codes "error 9 unfinished query 1 rounds 100000\n"
-error_text Memory = codes "error 10 memory\n"
-
 -- ---- a delivered answer
 
--- The histories are those of a run that delivered the rows of this document: each slip that came was sent, each
--- segment sent its rows of the table, the dispatcher took them all, once and in order, and acknowledged what it took.
-pub record Delivers (form : FirstForm) (histories : List (List Entry)) : Type 0 where
+-- The histories are those of a run that delivered the rows of this document: each datagram that came was sent, each
+-- segment sent its rows of the table, the dispatcher took the packets of all of it, once and in order, acknowledged
+-- what it took, and let out the rows that they carry. The tallies are those that the histories tell.
+pub record Delivers (form : FirstForm) (histories : List (List Entry)) (rows : List (List Value)) (tallies : List Tally) : Type 0 where
   pub nodes : length histories ≡ form.segments + 1
   pub network : NetworkLaw histories
   pub taking : TakingLaw form.session (history_at histories 0)
   pub served : (segment : ℕ) → segment < form.segments → IsServed form.session segment (rows_at form.segments segment form.rows) histories
-  pub answer : IsPermutation form.rows (let_out_of (history_at histories 0))
+  pub lets_out : LetsOut form.session form.segments (history_at histories 0) rows
+  pub answer : IsPermutation form.rows rows
+  pub told : AreTallies form.session form.segments histories tallies
 
--- the lines of an answer: the rows that the dispatcher took, in that order, and the tallies that the histories tell
-abbrev pub lines_of : FirstForm → List (List Entry) → List (List ℕ)
-lines_of form histories = map row_text (let_out_of (history_at histories 0)) ++ map tally_text (tallies_of form.session form.segments histories)
+-- the lines of an answer: the rows that the dispatcher let out, in that order, and the tallies
+abbrev pub lines_of : List (List Value) → List Tally → List (List ℕ)
+lines_of rows tallies = map row_text rows ++ map tally_text tallies
 
-abbrev pub text_of : FirstForm → List (List Entry) → List ℕ
-text_of form histories = concat (lines_of form histories)
+abbrev pub text_of : List (List Value) → List Tally → List ℕ
+text_of rows tallies = concat (lines_of rows tallies)
 
 -- the bytes, where the source tells them, lead to this document
 abbrev pub Reads : List (List ℕ) → Option (List ℕ) → FirstForm → Type 0
@@ -84,8 +74,10 @@ Reads words left form = IfSome left (λ bytes. (form_of bytes ≡ Some form) × 
 pub record IsDelivery (words : List (List ℕ)) (left wrote_old wrote_new : Option (List ℕ)) (histories : List (List Entry)) : Type 0 where
   pub form : FirstForm
   pub reads : Reads words left form
-  pub delivers : Delivers form histories
-  pub written : Appends wrote_old wrote_new (text_of form histories)
+  pub rows : List (List Value)
+  pub tallies : List Tally
+  pub delivers : Delivers form histories rows tallies
+  pub written : Appends wrote_old wrote_new (text_of rows tallies)
 
 abbrev pub IsDelivered : List (List ℕ) → (left wrote_old wrote_new : Option (List ℕ)) → Option Ended → Type 0
 IsDelivered words left wrote_old wrote_new None = ⊥
@@ -95,10 +87,11 @@ IsDelivered words left wrote_old wrote_new (Some (Traced histories)) = IsDeliver
 
 -- whole answers, lines that tell of a stop, and where memory runs out the first lines of an answer before such a line
 pub data MayWrite (words : List (List ℕ)) (left : Option (List ℕ)) : ℕ → List ℕ → Type 0 where
-  answer : (form : FirstForm) (histories : List (List Entry)) → Reads words left form → Delivers form histories → MayWrite words left 0 (text_of form histories)
+  answer : (form : FirstForm) (histories : List (List Entry)) (rows : List (List Value)) (tallies : List Tally) → Reads words left form
+      → Delivers form histories rows tallies → MayWrite words left 0 (text_of rows tallies)
   line : (stop : Stop) → MayWrite words left (status_of_stop stop) (error_text stop)
-  cut : (form : FirstForm) (histories : List (List Entry)) (lines : ℕ) → Reads words left form → Delivers form histories
-      → MayWrite words left 10 (concat (take lines (lines_of form histories)) ++ error_text Memory)
+  cut : (form : FirstForm) (histories : List (List Entry)) (rows : List (List Value)) (tallies : List Tally) (lines : ℕ) → Reads words left form
+      → Delivers form histories rows tallies → MayWrite words left 10 (concat (take lines (lines_of rows tallies)) ++ error_text Memory)
 
 -- why a status is answered: the words and the bytes alone give it, but for a read fault and want of memory
 pub record HasCauses (words : List (List ℕ)) (left : Option (List ℕ)) (faults_old faults_new status : ℕ) : Type 0 where

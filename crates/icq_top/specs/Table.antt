@@ -1,10 +1,12 @@
 -- A table of whole numbers, as a document has it.
-use Rattle.std.specs.Prelude.{ℕ, ℤ, List, [], ◌∷◌, length, codes, Bool, true, not, ◌&&◌, ◌==◌, nat_le, if◌then◌else◌, Option, Some, None}
-use Rattle.std.specs.List.{list_any}
+use Rattle.std.specs.Prelude.{ℕ, ◌≤◌, List, [], ◌∷◌, length, codes, Bool, true, not, ◌&&◌, ◌==◌, nat_le, if◌then◌else◌, Option, Some, None}
+use Rattle.std.specs.List.{list_any, AllByRecursion}
 use Rattle.std.specs.Str.{bytes_eq}
 use Rattle.serde_json.specs.Data.{Data, Items, no_items, item}
 use Rattle.serde_json.specs.Events.{items_len}
 use Rattle.serde_json.specs.Find.{get, as_array, as_i64, as_number, as_str}
+use Rattle.ic_row.specs.declared.value.Value.{Value}
+use Rattle.ic_row.specs.declared.value.Value.TheVariants.{Null, Int, Wide, Chars}
 use Rattle.icq_top.specs.Steps.{◌>>=◌}
 use Rattle.icq_top.specs.Members.{has_only}
 
@@ -38,15 +40,15 @@ width_in ds =
     else None
 
 -- the whole numbers of an array, each of 64 bits with its sign
-abbrev pub values_in : Items → Option (List ℤ)
+abbrev pub values_in : Items → Option (List Value)
 values_in no_items = Some []
-values_in (item d ds) = as_number d >>= as_i64 >>= λ value. values_in ds >>= λ values. Some (value ∷ values)
+values_in (item d ds) = as_number d >>= as_i64 >>= λ n. values_in ds >>= λ values. Some (Int n ∷ values)
 
 -- a row as wide as there are columns
-abbrev pub row_in : ℕ → Items → Option (List ℤ)
+abbrev pub row_in : ℕ → Items → Option (List Value)
 row_in width ds = if items_len ds == width then values_in ds else None
 
-abbrev pub rows_in : ℕ → Items → Option (List (List ℤ))
+abbrev pub rows_in : ℕ → Items → Option (List (List Value))
 rows_in width no_items = Some []
 rows_in width (item d ds) = as_array d >>= row_in width >>= λ row. rows_in width ds >>= λ rows. Some (row ∷ rows)
 
@@ -57,6 +59,24 @@ is_table d = has_only (codes "name" ∷ codes "columns" ∷ codes "rows" ∷ [])
 abbrev pub table_name : Data → Option (List ℕ)
 table_name d = if is_table d then get (codes "name") d >>= name_in else None
 
-abbrev pub table_rows : Data → Option (List (List ℤ))
+abbrev pub table_rows : Data → Option (List (List Value))
 table_rows d =
     get (codes "columns") d >>= as_array >>= width_in >>= λ width. get (codes "rows") d >>= as_array >>= rows_in width
+
+-- ---- what a row of such a table is
+
+-- a whole number
+abbrev pub IsInt : Value → Type 0
+IsInt (Int n) = Unit {0}
+IsInt Null = ⊥
+IsInt (Wide n) = ⊥
+IsInt (Chars text) = ⊥
+
+-- at most 256 values, each a whole number
+pub record IsCarried (row : List Value) : Type 0 where
+  pub count : length row ≤ 256
+  pub ints : AllByRecursion IsInt row
+
+-- each row is such a row
+abbrev pub AreCarried : List (List Value) → Type 0
+AreCarried rows = AllByRecursion IsCarried rows

@@ -1,13 +1,24 @@
 -- The text of rows and tallies, line by line.
-use Rattle.std.specs.Prelude.{ℕ, ℤ, List, [], ◌∷◌, ◌++◌, Bool, true, false, codes, decimal}
+use Rattle.std.specs.Prelude.{ℕ, List, [], ◌∷◌, ◌++◌, Bool, true, false, codes, decimal}
 use Rattle.std.specs.List.{flat_map}
 use Rattle.std.specs.Fmt.{signed_decimal}
+use Rattle.serde_json.specs.Data.{string}
+use Rattle.serde_json.specs.Written.{compact_text}
+use Rattle.ic_row.specs.declared.value.Value.{Value}
+use Rattle.ic_row.specs.declared.value.Value.TheVariants.{Null, Int, Wide, Chars}
 use Rattle.gd_sim.specs.declared.tally.Tally.{Tally}
 
+-- a number in decimal, and a text in quotes with the escapes of JSON
+abbrev pub value_text : Value → List ℕ
+value_text Null = codes "null"
+value_text (Int n) = signed_decimal n
+value_text (Wide n) = signed_decimal n
+value_text (Chars text) = compact_text (string text)
+
 -- the values in brackets, with commas between, and a line feed
-abbrev pub row_text : List ℤ → List ℕ
+abbrev pub row_text : List Value → List ℕ
 row_text [] = codes "[]\n"
-row_text (z ∷ zs) = codes "[" ++ signed_decimal z ++ flat_map (λ y. codes "," ++ signed_decimal y) zs ++ codes "]\n"
+row_text (first ∷ values) = codes "[" ++ value_text first ++ flat_map (λ value. codes "," ++ value_text value) values ++ codes "]\n"
 
 abbrev pub end_text : Bool → List ℕ
 end_text true = codes "whole"

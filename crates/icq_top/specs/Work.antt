@@ -4,12 +4,12 @@ use Rattle.std.specs.List.{concat}
 use Rattle.std.specs.Io.KnownBytes.{Appends}
 use Rattle.ic_edge.specs.Causes.{TakesAFront}
 use Rattle.gd_sim.specs.declared.run.FirstRun.{FirstRun}
-use Rattle.gd_sim.specs.History.{history_at, let_out_of}
 use Rattle.gd_sim.specs.Rounds.{is_over}
-use Rattle.gd_sim.specs.Run.{tallies_of}
+use Rattle.icq_top.specs.Table.{AreCarried}
 use Rattle.icq_top.specs.Document.{form_of}
 use Rattle.icq_top.specs.Deal.{dealt}
-use Rattle.icq_top.specs.Outcome.{Reads, Delivers, outcome, error_text}
+use Rattle.icq_top.specs.Stops.{error_text}
+use Rattle.icq_top.specs.Outcome.{Reads, Delivers, outcome}
 use Rattle.icq_top.specs.Print.{run_lines}
 use Rattle.icq_top.specs.declared.command.Ended.{Ended}
 use Rattle.icq_top.specs.declared.command.Ended.TheVariants.{Traced}
@@ -17,10 +17,11 @@ use Rattle.icq_top.specs.declared.form.FirstForm.{FirstForm}
 use Rattle.icq_top.specs.declared.stop.Stop.{Stop}
 use Rattle.icq_top.specs.declared.stop.Stop.TheVariants.{Usage, ReadFault, TooLong, NotBuilt, Unfinished, Memory}
 
--- a document of one to 64 segments
+-- a document of one to 64 segments, whose rows have at most 256 whole numbers each
 pub record IsForm (form : FirstForm) : Type 0 where
   pub some : 0 < form.segments
   pub few : form.segments < 65
+  pub rows : AreCarried form.rows
 
 -- what comes of the source's bytes
 abbrev pub GivesForm : Option (List ℕ) → Result FirstForm Stop → Type 0
@@ -32,11 +33,9 @@ GivesForm left (Err Memory) = Unit {0}
 GivesForm left (Err Usage) = ⊥
 GivesForm left (Err Unfinished) = ⊥
 
--- a run of a document, whose rows and tallies are those of its histories
-pub record IsRunOf (form : FirstForm) (run : FirstRun) : Type 0 where
-  pub delivers : Delivers form run.histories
-  pub rows : run.rows ≡ let_out_of (history_at run.histories 0)
-  pub tallies : run.tallies ≡ tallies_of form.session form.segments run.histories
+-- a run of a document, which delivered its rows
+abbrev pub IsRunOf : FirstForm → FirstRun → Type 0
+IsRunOf form run = Delivers form run.histories run.rows run.tallies
 
 -- what comes of a document
 abbrev pub RunsForm : List ℕ → FirstForm → Result FirstRun Stop → Type 0

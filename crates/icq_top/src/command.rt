@@ -3,7 +3,8 @@ ghost use Rattle.std.specs.Prelude.{◌≡◌, ◌≢◌, ◌≤◌, ◌⊎◌, 
 ghost use Rattle.std.specs.Io.KnownBytes.{Appends, IsAtEnd};
 ghost use Rattle.ic_edge.specs.Causes.{Rose, TakesAFront};
 ghost use Rattle.icq_top.specs.Words.{drops_of_words};
-ghost use Rattle.icq_top.specs.Outcome.{IsDelivered, HasCauses, IsWritten, IsCutShort, error_text, status_of_stop};
+ghost use Rattle.icq_top.specs.Stops.{error_text, status_of_stop};
+ghost use Rattle.icq_top.specs.Outcome.{IsDelivered, HasCauses, IsWritten, IsCutShort};
 ghost use Rattle.icq_top.specs.Work.{IsAnswered, GivesDrops, GivesForm, RunsForm, Works, IsForm};
 
 use crate::dealing::deal;

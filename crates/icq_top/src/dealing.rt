@@ -2,7 +2,8 @@
 ghost use Rattle.std.specs.Prelude.{◌≡◌, ◌<◌, [], IfOk, replicate};
 ghost use Rattle.icq_top.specs.Deal.{dealt};
 
-use gd_sim::{Parts, Rows};
+use gd_sim::Parts;
+use ic_row::Rows;
 use std::alloc::{AllocError, Global};
 
 // No rows at any segment.

@@ -1,12 +1,13 @@
 // The document that the first path runs.
 ghost use Rattle.std.specs.Prelude.{◌≡◌, ◌≤◌, ◌<◌, ◌^◌, IfOk};
 ghost use Rattle.serde_json.specs.View.{view};
+ghost use Rattle.icq_top.specs.Table.{AreCarried};
 ghost use Rattle.icq_top.specs.Document.{Gives, is_scan, is_gather, gathered, form_at, form_in, form_of};
 
 use crate::form::{FirstForm, FormNo};
 use crate::members::{has_only, number_at, says, sole_at};
 use crate::table::{table_name, table_rows};
-use gd_sim::Rows;
+use ic_row::Rows;
 use serde_json::Value;
 use std::alloc::Global;
 
@@ -82,6 +83,8 @@ pub fn read_form(alloc: Global, bytes: &[u8]) -> Result<FirstForm, FormNo>
     ensures exact { Gives (λ f. f) result (form_of bytes.now) }
     ensures session { IfOk result (λ f. (1 ≤ f.session) × (f.session < 2 ^ 31)) }
     ensures segments { IfOk result (λ f. (1 ≤ f.segments) × (f.segments ≤ 64)) }
+    // Each row has at most 256 values, all of them whole numbers of 64 bits.
+    ensures carried { IfOk result (λ f. AreCarried f.rows) }
 {
     match Value::from_slice(alloc, bytes) {
         Ok(document) => form_in(alloc, &document),

@@ -2,7 +2,7 @@
 ghost use Rattle.std.specs.Prelude.{◌≡◌};
 ghost use Rattle.icq_top.specs.declared.form.FormNo.TheVariants.{Memory};
 
-use gd_sim::Rows;
+use ic_row::Rows;
 use std::alloc::{AllocError, AllocFailed};
 
 /// One table of whole numbers, whose rows one query gathers.

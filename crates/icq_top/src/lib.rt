@@ -8,6 +8,7 @@ mod command;
 mod dealing;
 mod document;
 mod form;
+mod laws;
 mod line;
 mod members;
 mod print;
@@ -16,6 +17,7 @@ mod table;
 mod words;
 
 pub use command::{Ended, Report, refuse, sim_command};
+pub use laws::carried_rows_are_short;
 pub use stop::Stop;
 
 #[cfg(test)]

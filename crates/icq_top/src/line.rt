@@ -1,8 +1,12 @@
 // The text of one line.
 ghost use Rattle.std.specs.Prelude.{◌≡◌, ◌++◌, ℕ, List, [], OnOk, string_bytes, codes};
-ghost use Rattle.icq_top.specs.Text.{row_text, tally_ends, tally_counts, tally_text, end_text};
+ghost use Rattle.serde_json.specs.Data.{string};
+ghost use Rattle.serde_json.specs.Written.{compact_text};
+ghost use Rattle.icq_top.specs.Text.{row_text, value_text, tally_ends, tally_counts, tally_text, end_text};
 
-use gd_sim::{Row, Tally};
+use gd_sim::Tally;
+use ic_row::{Row, Value};
+use serde_json::Value as Json;
 use std::alloc::AllocError;
 
 /// What has a line of its own.
@@ -35,18 +39,40 @@ impl Line for Tally {
     }
 }
 
-fn push_row(line: &mut String, row: &[i64]) -> Result<(), AllocError>
+fn push_row(line: &mut String, row: &[Value]) -> Result<(), AllocError>
     requires { string_bytes line.old ≡ [] }
     ensures { OnOk result (string_bytes line.new ≡ row_text row.now) }
 {
     let Some((first, rest)) = row.split_first() else {
         return line.push_str("[]\n");
     };
-    write!(line, "[{first}")?;
+    line.push_str("[")?;
+    push_value(line, first)?;
     for value in rest {
-        write!(line, ",{value}")?;
+        line.push_str(",")?;
+        push_value(line, value)?;
     }
     line.push_str("]\n")
+}
+
+fn push_value(line: &mut String, value: &Value) -> Result<(), AllocError>
+    ensures { OnOk result (string_bytes line.new ≡ string_bytes line.old ++ value_text value.now) }
+{
+    match value {
+        Value::Null => line.push_str("null"),
+        Value::Int(n) => write!(line, "{n}"),
+        Value::Wide(n) => write!(line, "{n}"),
+        Value::Chars(text) => push_text(line, text.as_str()),
+    }
+}
+
+// Takes memory for the text and for its JSON, and gives both back.
+fn push_text(line: &mut String, text: &str) -> Result<(), AllocError>
+    ensures { OnOk result (string_bytes line.new ≡ string_bytes line.old ++ compact_text (string text.now)) }
+{
+    let alloc = *line.allocator();
+    let quoted = Json::String(String::from_str(alloc, text)?).to_string(alloc)?;
+    line.push_str(quoted.as_str())
 }
 
 fn end_name(whole: bool) -> &'static str

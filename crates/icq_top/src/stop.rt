@@ -1,6 +1,6 @@
 // Why the program stops before an answer, and the line that says so.
 ghost use Rattle.std.specs.Prelude.{◌≡◌, ◌≢◌};
-ghost use Rattle.icq_top.specs.Outcome.{status_of_stop, error_text};
+ghost use Rattle.icq_top.specs.Stops.{status_of_stop, error_text};
 
 use std::alloc::AllocError;
 

@@ -6,7 +6,7 @@ ghost use Rattle.icq_top.specs.Document.{Gives};
 
 use crate::form::FormNo;
 use crate::members::{has_only, is_one_of};
-use gd_sim::{Row, Rows};
+use ic_row::{Row, Rows, Value as Datum};
 use serde_json::Value;
 use std::alloc::Global;
 
@@ -82,13 +82,13 @@ fn width_in(alloc: Global, columns: &[Value]) -> Result<usize, FormNo>
     }
 }
 
-fn values_in(alloc: Global, values: &[Value]) -> Result<Vec<i64>, FormNo>
+fn values_in(alloc: Global, values: &[Value]) -> Result<Vec<Datum>, FormNo>
     ensures { Gives (λ v. v.items) result (values_in (items_view values.now)) }
 {
     let mut numbers = Vec::with_capacity(alloc, values.len())?;
     for value in values {
         match value.as_i64() {
-            Some(number) => numbers.push(number)?,
+            Some(number) => numbers.push(Datum::Int(number))?,
             None => return Err(FormNo::NotBuilt),
         }
     }
@@ -100,7 +100,7 @@ fn row_in(alloc: Global, width: usize, values: &[Value]) -> Result<Row, FormNo>
     ensures { Gives (λ r. r) result (row_in width (items_view values.now)) }
 {
     if values.len() == width {
-        Ok(Row::from_vec(alloc, values_in(alloc, values)?)?)
+        Ok(Row::from_vec(values_in(alloc, values)?))
     } else {
         Err(FormNo::NotBuilt)
     }

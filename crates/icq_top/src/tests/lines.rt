@@ -2,9 +2,10 @@
 use crate::dealing::deal;
 use crate::print::{PrintNo, print_lines};
 use crate::stop::Stop;
-use gd_sim::{Row, Rows, Tally};
-use ic_base::{ConnKey, SegId};
+use gd_sim::Tally;
+use ic_base::{ConnKey, SegId, Text};
 use ic_edge::{Fail, Fails, MemSink};
+use ic_row::{Row, Rows, Value};
 use std::alloc::{AllocError, Global};
 use std::test::Fail as TestFail;
 
@@ -19,8 +20,19 @@ fn sink(alloc: Global) -> Result<MemSink, AllocError> {
     MemSink::new(alloc, Fails::from_vec(Vec::new(alloc)))
 }
 
-fn row(alloc: Global, values: &[i64]) -> Result<Row, AllocError> {
-    Row::from_vec(alloc, Vec::from_slice(alloc, values)?)
+/// A row of ints.
+fn row(alloc: Global, numbers: &[i64]) -> Result<Row, AllocError> {
+    let mut values = Vec::with_capacity(alloc, numbers.len())?;
+    for number in numbers {
+        values.push(Value::Int(*number))?;
+    }
+    Ok(Row::from_vec(values))
+}
+
+/// A row of one text.
+fn text_row(alloc: Global, text: &str) -> Result<Row, AllocError> {
+    let text = Value::Chars(Text::from_string(String::from_str(alloc, text)?));
+    Ok(Row::from_vec(vec![in alloc; text]?))
 }
 
 /// Rows of one value, from 0 on.
@@ -59,6 +71,42 @@ fn a_row_is_its_values_with_commas_between(rt: HostRuntime) -> Result<(), TestFa
     assert_eq!(rt; print_lines(&mut sink, &mut buffer, &rows), Ok(()));
     let wanted = "[-9223372036854775808,0,9223372036854775807]\n";
     assert_eq!(rt; sink.bytes(), wanted.as_bytes());
+    Ok(())
+}
+
+#[test]
+fn nulls_and_wides_stand_in_a_row_as_numbers_do(rt: HostRuntime) -> Result<(), TestFail> {
+    let alloc = rt.alloc();
+    let mut sink = sink(alloc)?;
+    let mut buffer = String::new(alloc);
+    let least = Value::Wide(-170141183460469231731687303715884105728);
+    let values = vec![in alloc; Value::Null, least, Value::Int(-1), Value::Null]?;
+    let rows = vec![in alloc; Row::from_vec(values)]?;
+    assert_eq!(rt; print_lines(&mut sink, &mut buffer, &rows), Ok(()));
+    let wanted = "[null,-170141183460469231731687303715884105728,-1,null]\n";
+    assert_eq!(rt; sink.bytes(), wanted.as_bytes());
+    Ok(())
+}
+
+#[test]
+fn a_text_is_quoted_as_in_json(rt: HostRuntime) -> Result<(), TestFail> {
+    let table = [
+        ("", r#"[""]"#),
+        ("a b/\u{7f}é😀", "[\"a b/\u{7f}é😀\"]"),
+        ("\"\\", r#"["\"\\"]"#),
+        ("\u{8}\t\n\u{c}\r", r#"["\b\t\n\f\r"]"#),
+        ("\u{0}\u{1f}", r#"["\u0000\u001f"]"#),
+    ];
+    let alloc = rt.alloc();
+    let mut buffer = String::new(alloc);
+    for (text, wanted) in table {
+        let mut sink = sink(alloc)?;
+        let rows = vec![in alloc; text_row(alloc, text)?]?;
+        assert_eq!(rt; print_lines(&mut sink, &mut buffer, &rows), Ok(()));
+        let (line, end) = sink.bytes().split_at(sink.bytes().len() - 1);
+        assert!(rt; line == wanted.as_bytes(), "at {wanted}");
+        assert_eq!(rt; end, b"\n".as_slice());
+    }
     Ok(())
 }
 

@@ -1,6 +1,6 @@
-use Rattle.std.proofs.Common.{◌≡◌, map, take}
-use Rattle.gd_sim.specs.Rounds.{told}
+use Rattle.std.proofs.Common.{◌≡◌, ◌++◌, drop}
+use Rattle.gd_sim.specs.Telling.{tellings}
 use Rattle.gd_sim.proofs.run.tallies.Given as goal
 
-abbrev pub invariant-loop-conn : goal.invariant-loop-conn
-invariant-loop-conn l = l.tallies ≡ map told (take l.conn-index l.conns)
+abbrev pub invariant-loop-segment : goal.invariant-loop-segment
+invariant-loop-segment l = l.tallies ++ tellings (drop l.segment l.conns) (drop l.segment l.streams) ≡ tellings l.conns l.streams

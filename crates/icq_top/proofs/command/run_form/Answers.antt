@@ -1,6 +1,9 @@
 use Rattle.std.proofs.Common.{◌≡◌, ◌≤◌, ◌∙◌, ap, sym, subst, length, arith, true}
+use Rattle.std.specs.List.{All}
+use Rattle.ic_row.specs.Spelling.{HasLengths}
 use Rattle.gd_sim.specs.Rounds.{is_over}
 use Rattle.gd_sim.specs.Run.{IsRun}
+use Rattle.icq_top.proofs.Carried.{dealt_have_lengths}
 use Rattle.icq_top.proofs.DealLemmas.{length-parts_from}
 use Rattle.icq_top.proofs.Delivering.{run-of_form}
 use Rattle.icq_top.proofs.command.run_form.Goals as goal
@@ -9,6 +12,11 @@ pub first_run-requires-clause-few : goal.first_run-requires-clause-few
 first_run-requires-clause-few c =
     let form = c.args.form in
     omega (arith, ap length c.in_ok-parts.ensures, length-parts_from form.segments 0 form.segments form.rows, c.requires.few)
+
+pub first_run-requires-clause-lengths : goal.first_run-requires-clause-lengths
+first_run-requires-clause-lengths c =
+    let form = c.args.form in
+    subst (λ l. All (All HasLengths) l) (sym c.in_ok-parts.ensures) (dealt_have_lengths form.segments form.rows c.requires.rows)
 
 pub returns-in-Ok : goal.returns-in-Ok
 returns-in-Ok c = (
