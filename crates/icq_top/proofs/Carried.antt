@@ -1,9 +1,10 @@
 -- The rows that a document says: at most 256 whole numbers each, and what follows for their spelling.
-use Rattle.std.proofs.Common.{◌≡◌, ℕ, zero, suc, ℤ, ◌*◌, ◌≤◌, List, [], ◌∷◌, length, codes, Bool, true, false, cond, ◌&&◌, Option, Some, None, Result, Ok, Err, IfOk, refl, ap, subst, arith, eqb, nat_le}
+use Rattle.std.proofs.Common.{◌≡◌, ℕ, zero, suc, ℤ, ◌+◌, ◌-◌, ◌*◌, ◌/◌, ◌<◌, ◌≤◌, ◌∙◌, List, [], ◌∷◌, length, codes, Bool, true, false, cond, ◌&&◌, Option, Some, None, Result, Ok, Err, IfOk, refl, ap, subst, arith, eqb, nat_le}
 use Rattle.std.specs.List.{All, AllByRecursion, flat_map}
 use Rattle.std.specs.Int.{w16, to_be_bytes}
 use Rattle.std.proofs.lemmas.Bool.{and_parts, leb-true, eqb-true}
-use Rattle.std.proofs.lemmas.List.{length-append}
+use Rattle.std.proofs.lemmas.List.{length-append, take_all}
+use Rattle.std.proofs.lemmas.Nat.{div-mul-add}
 use Rattle.std.proofs.lemmas.Option.{option_and_then_some, same_Some}
 use Rattle.serde_json.specs.Data.{Data, Items, no_items, item}
 use Rattle.serde_json.specs.Events.{items_len}
@@ -11,6 +12,9 @@ use Rattle.serde_json.specs.Find.{get, as_array}
 use Rattle.ic_row.specs.declared.value.Value.{Value}
 use Rattle.ic_row.specs.declared.value.Value.TheVariants.{Null, Int, Wide, Chars}
 use Rattle.ic_row.specs.Spelling.{int_spelling, value_spelling, spelling_of, FitsLength, HasLengths}
+use Rattle.ic_chunk.specs.declared.chunk.ChunkKind.TheVariants.{Whole}
+use Rattle.ic_chunk.specs.Chunks.{chunk_of}
+use Rattle.ic_chunk.specs.Cutting.{chunks_of, count_of, group_of, pieces}
 use Rattle.icq_top.specs.Steps.{◌>>=◌}
 use Rattle.icq_top.specs.Members.{number_at, sole_at}
 use Rattle.icq_top.specs.Table.{IsInt, IsCarried, AreCarried, values_in, row_in, rows_in, columns_in, are_distinct, width_in, table_name, table_rows}
@@ -132,6 +136,24 @@ pub short_of_carried : (row : List Value) → IsCarried row → length (spelling
 unfolding spelling_of
 short_of_carried row carried =
     omega (arith, length-append (to_be_bytes w16 (length row)) (flat_map value_spelling row), ints_short row carried.ints, carried.count)
+
+filled_of_row : (row : List Value) → 0 < length (spelling_of row)
+unfolding spelling_of
+filled_of_row row = omega (arith, length-append (to_be_bytes w16 (length row)) (flat_map value_spelling row))
+
+-- bytes for which one chunk has room are cut into that one
+one_chunk : (bytes : List ℕ) → 0 < length bytes → length bytes ≤ 8120 → chunks_of 8192 bytes ≡ chunk_of Whole bytes ∷ []
+unfolding count_of
+one_chunk bytes some small =
+    let n = length bytes in
+    let whole : n + 8120 - 1 ≡ 1 * 8120 + (n - 1) = omega (arith, some) in
+    let count : count_of 8120 bytes ≡ 1 = ap (λ k. k / 8120) whole ∙ div-mul-add 1 8120 (n - 1) (omega (arith, some, small)) in
+    ap (λ k. group_of (pieces 8120 k bytes)) count ∙ ap (λ b. chunk_of Whole b ∷ []) (take_all 8120 bytes small)
+
+pub one_of_carried : (row : List Value) → IsCarried row → chunks_of 8192 (spelling_of row) ≡ chunk_of Whole (spelling_of row) ∷ []
+one_of_carried row carried =
+    let short = short_of_carried row carried in
+    one_chunk (spelling_of row) (filled_of_row row) (omega (arith, short))
 
 -- ---- where the rows are dealt
 
