@@ -1,5 +1,5 @@
 -- What a receiving end answers, by what it stored and what was taken before.
-use Rattle.std.specs.Prelude.{◌≡◌, ◌≢◌, ℕ, zero, suc, ◌+◌, ◌-◌, ◌<◌, ◌≤◌, ◌⊎◌, List, [], ◌∷◌, ◌++◌, length, Bool, true, ◌==◌, if◌then◌else◌, Some, Ok, Err, Contains}
+use Rattle.std.specs.Prelude.{◌≡◌, ◌≢◌, ℕ, zero, suc, ◌+◌, ◌-◌, ◌<◌, ◌≤◌, ◌⊎◌, List, [], ◌∷◌, ◌++◌, length, Bool, true, false, not, filter, ◌==◌, Some, Ok, Err, Contains}
 use Rattle.std.specs.List.{flat_map, list_any}
 use Rattle.std.specs.Int.{w32, to_be_bytes}
 use Rattle.ic_base.specs.declared.keys.ConnKey.{ConnKey}
@@ -32,13 +32,18 @@ pub record IsGreatest (numbers : List ℕ) (g : ℕ) : Type 0 where
   pub bound : (n : ℕ) → Contains numbers n → n ≤ g
   pub here : Contains numbers g
 
+-- is n among them?
 abbrev pub has : List ℕ → ℕ → Bool
 has numbers n = list_any (λ m. m == n) numbers
 
--- of so many numbers from n on, those that aren't there
+-- so many numbers from n on
+abbrev pub numbers_from : ℕ → ℕ → List ℕ
+numbers_from n zero = []
+numbers_from n (suc count) = n ∷ numbers_from (n + 1) count
+
+-- the numbers above r, up to g, that aren't among these
 abbrev pub missing : List ℕ → ℕ → ℕ → List ℕ
-missing numbers n zero = []
-missing numbers n (suc count) = if has numbers n then missing numbers (n + 1) count else n ∷ missing numbers (n + 1) count
+missing numbers r g = filter (λ n. not (has numbers n)) (numbers_from (r + 1) (g - r))
 
 -- the body of an answer that lists numbers, four bytes each
 abbrev pub listing : List ℕ → List ℕ
@@ -73,7 +78,7 @@ pub data AnswersRows (settings : Settings) (end : ConnEnd) (before : List Entry)
       → (Contains (stored_numbers_of end.key before) q.seq → ⊥)
       → q.seq ≤ consumed_of end.key before + settings.receive_depth → length q.payload + 64 ≤ settings.packet
       → IsGreatest (stored_numbers_of end.key before ++ q.seq ∷ []) g
-      → reply ≡ handled (answer_datagram end Disorder q.seq g (listing (missing (stored_numbers_of end.key before ++ q.seq ∷ []) (r + 1) (g - r))))
+      → reply ≡ handled (answer_datagram end Disorder q.seq g (listing (missing (stored_numbers_of end.key before ++ q.seq ∷ []) r g)))
       → AnswersRows settings end before q reply
 
 -- what a status query that comes is answered
