@@ -2,3 +2,4 @@ pub mod Lists
 pub mod Readings
 pub mod Regrouping
 pub mod Following
+pub mod Making
