@@ -1,10 +1,10 @@
-use Rattle.std.proofs.Common.{◌≡◌, ℕ, ◌<◌, ◌≤◌, length, Result, Ok, Err, arith, rules, IfOk, IfErr}
+use Rattle.std.proofs.Common.{ℕ, Result, Ok, Err, arith, rules, IfOk, IfErr}
 use Rattle.std.specs.Ordering.{nat_cmp}
 use Rattle.std.specs.List.{Contains}
 use Rattle.std.specs.List.Sorted.{IsBinarySearchResult, IsSearchInRange}
 use Rattle.std.proofs.lemmas.List.Sorted.{answers_always}
 use Rattle.ic_recvring.specs.declared.kept.Kept.{Kept}
-use Rattle.ic_recvring.specs.Numbers.{Increases, IsPlace}
+use Rattle.ic_recvring.specs.Numbers.{IsPlace}
 use Rattle.ic_recvring.specs.Views.{seqs_of}
 use Rattle.ic_recvring.proofs.Places.{searchable, found_is, place_is}
 use Rattle.ic_recvring.proofs.kept.find.Goals as goal

@@ -1,4 +1,4 @@
-use Rattle.std.proofs.Common.{◌≡◌, ℕ, ◌+◌, ◌-◌, ◌<◌, ◌≤◌, [], ◌∷◌, List, length, drop, arith, subst, sym, ap, ◌∙◌, add-one}
+use Rattle.std.proofs.Common.{◌≡◌, ◌+◌, ◌<◌, ◌≤◌, length, drop, arith, subst, sym}
 use Rattle.std.proofs.lemmas.List.{drop_all, length-map}
 use Rattle.ic_recvring.specs.declared.kept.Kept.{Kept}
 use Rattle.ic_recvring.specs.Numbers.{Increases, RunsOn}

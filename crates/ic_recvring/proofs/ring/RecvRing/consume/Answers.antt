@@ -1,7 +1,6 @@
-use Rattle.std.proofs.Common.{◌≡◌, ℕ, ◌+◌, ◌≤◌, List, [], ◌∷◌, length, map, refl, sym, ap, ◌∙◌, subst, arith, IsSome, slice_get, Some}
-use Rattle.ic_recvring.specs.declared.kept.Kept.{Kept}
+use Rattle.std.proofs.Common.{◌≡◌, ◌+◌, ◌∷◌, map, sym, ap, ◌∙◌, subst, arith, IsSome, slice_get}
 use Rattle.ic_recvring.specs.Numbers.{Increases}
-use Rattle.ic_recvring.specs.Ring.{Ring, Packet, numbers, stored_of, front_of, after_front}
+use Rattle.ic_recvring.specs.Ring.{Ring, numbers, stored_of, front_of, after_front}
 use Rattle.ic_recvring.specs.Views.{packet_of, ring_of}
 use Rattle.ic_recvring.proofs.Packets.{front_first, first_front}
 use Rattle.ic_recvring.proofs.Sound.{sound_consumed, stored_consumed}

@@ -1,7 +1,7 @@
-use Rattle.std.proofs.Common.{◌≡◌, ◌≤◌, ◌<◌, List, [], None, false, true, refl, inl, inr, sym, ap, ◌∙◌, subst, arith}
+use Rattle.std.proofs.Common.{◌≡◌, None, false, true, inl, inr, sym, ap, ◌∙◌, arith}
 use Rattle.std.proofs.lemmas.Bool.Decides.{leb_tells}
 use Rattle.std.proofs.lemmas.List.{nil_from_length}
-use Rattle.ic_recvring.specs.Ring.{Ring, front_of}
+use Rattle.ic_recvring.specs.Ring.{front_of}
 use Rattle.ic_recvring.specs.Views.{ring_of}
 use Rattle.ic_recvring.proofs.Packets.{front_gap}
 use Rattle.ic_recvring.proofs.Sound.{ahead_of}

@@ -1,7 +1,7 @@
-use Rattle.std.proofs.Common.{◌≡◌, ℕ, ◌+◌, ◌-◌, ◌<◌, length, List, [], false, true, refl, inl, inr, sym, ap, ◌∙◌, subst, arith}
+use Rattle.std.proofs.Common.{◌≡◌, ◌-◌, [], false, true, refl, inl, inr, sym, ap, subst, arith}
 use Rattle.std.proofs.lemmas.Bool.Decides.{leb_tells}
 use Rattle.std.proofs.lemmas.List.{nil_from_length}
-use Rattle.ic_recvring.specs.Numbers.{numbers_from, IsGreatest}
+use Rattle.ic_recvring.specs.Numbers.{IsGreatest}
 use Rattle.ic_recvring.specs.Ring.{Ring, stored_of}
 use Rattle.ic_recvring.specs.Views.{ring_of, seqs_of}
 use Rattle.ic_recvring.proofs.Runs.{last_of}

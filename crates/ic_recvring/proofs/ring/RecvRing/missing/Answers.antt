@@ -1,9 +1,9 @@
-use Rattle.std.proofs.Common.{◌≡◌, ℕ, ◌+◌, ◌-◌, ◌<◌, ◌≤◌, List, [], ◌∷◌, ◌++◌, length, map, drop, refl, sym, ap, ◌∙◌, subst, arith, append_assoc, append-nil}
+use Rattle.std.proofs.Common.{◌≡◌, ℕ, ◌+◌, ◌-◌, ◌<◌, ◌≤◌, ◌++◌, length, drop, sym, ap, ◌∙◌, subst, arith, append_assoc, append-nil}
 use Rattle.std.proofs.lemmas.List.{drop_all, length-map}
 use Rattle.ic_recvring.specs.declared.kept.Kept.{Kept}
 use Rattle.ic_recvring.specs.Numbers.{numbers_from, Increases, IsRunEnd, IsGreatest, missing}
-use Rattle.ic_recvring.specs.Ring.{Ring, numbers, stored_of}
-use Rattle.ic_recvring.specs.Views.{ring_of, packet_of, seqs_of}
+use Rattle.ic_recvring.specs.Ring.{Ring, stored_of}
+use Rattle.ic_recvring.specs.Views.{seqs_of}
 use Rattle.ic_recvring.proofs.Missing.{gaps, gaps_missing}
 use Rattle.ic_recvring.proofs.Packets.{numbers_are, seqs_next}
 use Rattle.ic_recvring.proofs.Sound.{ahead_of}

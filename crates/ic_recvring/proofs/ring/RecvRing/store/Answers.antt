@@ -1,8 +1,8 @@
-use Rattle.std.proofs.Common.{◌≡◌, ℕ, ◌+◌, ◌-◌, ◌<◌, ◌≤◌, List, length, map, drop, insert, refl, sym, ap, ◌∙◌, subst, arith, inl, inr, vec_capacity}
+use Rattle.std.proofs.Common.{◌≡◌, ℕ, ◌≤◌, length, map, drop, refl, sym, ap, ◌∙◌, subst, arith, inl, inr, vec_capacity}
 use Rattle.std.specs.List.{Contains}
 use Rattle.ic_recvring.specs.declared.kept.Kept.{Kept}
-use Rattle.ic_recvring.specs.Numbers.{IsRunEnd, IsPlace, RunsOn, Increases}
-use Rattle.ic_recvring.specs.Ring.{Ring, Packet, stored_of, numbers, room_of, placed, IsRepeated, IsNew, IsBeyond, HasRoom}
+use Rattle.ic_recvring.specs.Numbers.{IsRunEnd, RunsOn, Increases}
+use Rattle.ic_recvring.specs.Ring.{Ring, Packet, stored_of, room_of, placed, IsRepeated, IsNew, IsBeyond, HasRoom}
 use Rattle.ic_recvring.specs.Views.{seqs_of, packet_of, ring_of}
 use Rattle.std.specs.VecDeque.{deque_capacity}
 use Rattle.ic_recvring.specs.Room.{IsSound}
