@@ -18,3 +18,6 @@ pub use answer::Store;
 pub use ring::RecvRing;
 pub use sealed::Sealed;
 pub use seqs::Seqs;
+
+#[cfg(test)]
+mod tests;

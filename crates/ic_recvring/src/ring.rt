@@ -108,11 +108,16 @@ impl RecvRing {
         requires { IsSome (front_of self.old) }
         ensures front { front_of self.old ≡ slice_get self.old.kept 0 }
         ensures rest { self.new ≡ after_front self.old }
+        ensures stored { stored_of self.new ≡ stored_of self.old }
     {
         let Some(front) = self.kept.pop_front() else {
             unreachable!();
         };
-        let Kept { seq, last: _, payload } = front;
+        let Kept {
+            seq,
+            last: _,
+            payload,
+        } = front;
         self.consumed = seq;
         self.spare.push_reserved(payload);
     }
