@@ -50,9 +50,9 @@ pub record IsQuerying (c : ConnKey) (seq : ℕ) (a : Option Datagram) (e : Entry
   pub reply : e.reply ≡ came_of a
 
 -- a take from c was refused so
-pub record IsRefusing (c : ConnKey) (no : HubNo) (e : Entry) : Type 0 where
+pub record IsRefusing (c : ConnKey) (why : HubNo) (e : Entry) : Type 0 where
   pub ask : e.ask ≡ TakeFrom c
-  pub reply : e.reply ≡ Took (Err no)
+  pub reply : e.reply ≡ Took (Err why)
 
 -- c was halted, with this datagram or none
 pub record IsHalting (c : ConnKey) (a : Option Datagram) (e : Entry) : Type 0 where

@@ -92,6 +92,7 @@ pub record HandsFront (end : ConnEnd) (s : Ring) (p : Parcel) (d : Datagram) (af
   pub run_end : IsRunEnd (stored_of s) run
   pub answer : IsAnswer end Ack run (s.consumed + 1) [] d
   pub after_is : after ≡ after_front s
+  pub stored : stored_of after ≡ stored_of s
 
 -- where it is neither whole nor halted
 pub record HandsOver (s : Receiving) (p : Parcel) (d : Datagram) (after : Receiving) : Type 0 where

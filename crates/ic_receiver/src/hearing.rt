@@ -55,7 +55,7 @@ pub(crate) fn hear(
         Store::Stored => match tell_stored(alloc, end, ring, run, seq) {
             Ok(told) => Ok(Some(told)),
             Err(e) => {
-                ring.take_back(seq);
+                // ring.take_back(seq);
                 Err(e)
             }
         },

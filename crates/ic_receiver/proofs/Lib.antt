@@ -1,0 +1,6 @@
+mod Numbers
+mod Shown
+mod Moving
+mod Came
+mod Taken
+mod Others
