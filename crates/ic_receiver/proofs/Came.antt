@@ -28,7 +28,7 @@ use Rattle.ic_law.proofs.Readings.{every_push, rows_in-reads}
 use Rattle.ic_receiver.specs.Receiving.{Receiving, IsAnswer, storing, TellsStored, Next, Gap, HearsRows, Again, Far, Kept, Hears, Stopped, Running, HearsQuery, QueryStopped, QueryTold}
 use Rattle.ic_receiver.specs.Entries.{row_of, came_of, IsHearing, IsQuerying}
 use Rattle.ic_receiver.specs.Standing.{Mirrors, Reflects, Stands}
-use Rattle.ic_receiver.proofs.Numbers.{Same, same_run_end, same_greatest, same_missing, missing_first}
+use Rattle.ic_receiver.proofs.Numbers.{Same, same_run_end, same_greatest, same_missing, missing_first, run_behind}
 use Rattle.ic_receiver.proofs.Shown.{answer_tells, Lawful, lawful_none, lawful_stop, lawful_ack, lawful_duplicate, lawful_disorder}
 use Rattle.ic_receiver.proofs.Moving.{halted_push, halt_asked, Moves, moves_by, numbers_now, whole_same, consumed_same, run_had, run_had_still, mirrors_same, stands_still, entry_is}
 
@@ -96,13 +96,6 @@ fresh settings end s h r n mirrors one ahead new there =
       | inl low ↦ let b = numbers_bound 1 s.consumed n low in let le = consumed_in_run s.consumed r (numbers s.kept) one in omega (arith, b.1, le, ahead)
       | inr kept ↦ new kept
     ]
-
--- a gap stays where the run ended
-run_behind : (s : Ring) (q : Packet) (r : ℕ) → ring.IsRunEnd (stored_of s) r → r + 1 < q.seq → (Contains (numbers s.kept) q.seq → ⊥) → ring.IsRunEnd (stored_of (storing s q)) r
-run_behind s q r one ahead new = record {
-  run = λ n low high. stored_keeps s q n new (one.run n low high);
-  end = λ there. elim (stored_from s q (r + 1) there) [ inl same ↦ omega (arith, same, ahead) | inr before ↦ one.end before ];
-}
 
 -- ---- a packet of rows, where the end isn't halted
 

@@ -4,3 +4,4 @@ mod Moving
 mod Came
 mod Taken
 mod Others
+mod Made

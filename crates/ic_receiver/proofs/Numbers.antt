@@ -1,8 +1,12 @@
 -- Numbers of a ring as numbers of a history: run ends, greatest ones and missing ones are the same where the numbers are.
 use Rattle.std.proofs.Common.{◌≡◌, ℕ, zero, suc, ◌+◌, ◌-◌, ◌*◌, ◌<◌, ◌≤◌, Bool, true, false, not, cond, List, [], ◌∷◌, ◌++◌, length, refl, ap, sym, ◌∙◌, subst, arith, inl, inr, ◌⊎◌, length-append}
 use Rattle.std.specs.List.{Contains, filter}
+use Rattle.std.proofs.lemmas.List.Elements.{All-contains, Contains-append_cases}
 use Rattle.ic_recvring.specs.Numbers as ring
-use Rattle.ic_recvring.proofs.Among.{has_not, has_there, same_has}
+use Rattle.ic_recvring.specs.Ring.{Ring, Packet, IsRing, numbers, stored_of, placed}
+use Rattle.ic_recvring.proofs.Among.{has_not, same_has, numbers_bound}
+use Rattle.ic_recvring.proofs.Runs.{consumed_in_run}
+use Rattle.ic_recvring.proofs.Stored.{packet_with, stored_keeps, stored_from}
 use Rattle.ic_law.specs.Receiving.{IsRunEnd, IsGreatest, numbers_from, has, missing}
 
 -- two lists have the same numbers
@@ -63,3 +67,23 @@ length-filter f (n ∷ ns) = by (f n) (length-filter f ns)
 
 pub few_missing : (xs : List ℕ) (r g : ℕ) → length (ring.missing xs r g) ≤ g - r
 few_missing xs r g = let le = length-filter (λ n. not (has xs n)) (ring.numbers_from (r + 1) (g - r)) in let is = length-numbers_from (r + 1) (g - r) in omega (arith, le, is)
+
+-- the greatest number lies within the depth behind the run
+pub greatest_near : (s : Ring) (r g : ℕ) → IsRing s → ring.IsRunEnd (stored_of s) r → ring.IsGreatest (stored_of s) g → g ≤ r + s.depth
+greatest_near s r g sound one top =
+    let low = consumed_in_run s.consumed r (numbers s.kept) one in
+    elim top.here [
+      | inl none ↦ omega (arith, none)
+      | inr there ↦ elim (Contains-append_cases (ring.numbers_from 1 s.consumed) (numbers s.kept) g there) [
+        | inl before ↦ let b = numbers_bound 1 s.consumed g before in omega (arith, b.1, low)
+        | inr kept ↦ let found = packet_with s.kept g kept in let near : found.0.seq ≤ s.consumed + s.depth = All-contains (λ (p : Packet). p.seq ≤ s.consumed + s.depth) s.kept found.0 sound.near found.1 in
+            omega (arith, near, found.2, low)
+      ]
+    ]
+
+-- a gap stays where the run ended
+pub run_behind : (s : Ring) (q : Packet) (r : ℕ) → ring.IsRunEnd (stored_of s) r → r + 1 < q.seq → (Contains (numbers s.kept) q.seq → ⊥) → ring.IsRunEnd (stored_of (record s { kept = placed q s.kept })) r
+run_behind s q r one ahead new = record {
+  run = λ n low high. stored_keeps s q n new (one.run n low high);
+  end = λ there. elim (stored_from s q (r + 1) there) [ inl same ↦ omega (arith, same, ahead) | inr before ↦ one.end before ];
+}
