@@ -1,26 +1,28 @@
 -- What is held after a step, for one packet and for one connection.
-use Rattle.std.proofs.Common.{◌≡◌, zero, suc, ◌⊎◌, Bool, true, false, not, cond, leb, List, [], ◌∷◌, ◌++◌, get_or, refl, sym, ap, ◌∙◌, subst, arith, inl, inr}
+use Rattle.std.proofs.Common.{map, ◌≡◌, ◌≢◌, zero, suc, ◌⊎◌, Bool, true, false, not, cond, leb, List, [], ◌∷◌, ◌++◌, get_or, refl, sym, ap, ◌∙◌, subst, arith, inl, inr}
 use Rattle.std.specs.Ordering.{is_lt}
-use Rattle.std.specs.List.{All, Contains, filter}
-use Rattle.std.proofs.lemmas.Bool.{not-true, not_from_false, ne_eqb, eqb-true, cases_Bool, both_ways, and_left, false_from_ne_true}
-use Rattle.std.proofs.lemmas.List.Elements.{All-filter, All-contains, All-contains_itself, filter_passes, filter-append, Contains-append_left, Contains-append_right, Contains-append_cases}
+use Rattle.std.specs.List.{All, AllPairs, Contains, filter}
+use Rattle.std.proofs.lemmas.Bool.{leb-true, leb-false, le-leb, not-true, not_from_false, ne_eqb, eqb-true, cases_Bool, both_ways, and_left, false_from_ne_true}
+use Rattle.std.proofs.lemmas.List.Elements.{All-map, All-filter, All-contains, All-contains_itself, filter_passes, filter-append, Contains-append_left, Contains-append_right, Contains-append_cases}
+use Rattle.std.proofs.lemmas.List.Kept.{AllPairs-cons}
 use Rattle.ic_expire.specs.declared.item.Item.{Item}
-use Rattle.ic_expire.specs.Items.{item_cmp, IsBefore, is_of, is_upto}
+use Rattle.ic_expire.specs.declared.dues.Due.{Due}
+use Rattle.ic_expire.specs.Items.{item_cmp, IsBefore, AreOthers, packet_of, is_due, is_of, is_upto}
 use Rattle.ic_expire.specs.Queue.{EachLater, without, with_item}
-use Rattle.ic_expire.specs.Laws.{PutHolds, RestHolds, PutKeepsOthers, CutKeepsOthers}
-use Rattle.ic_expire.proofs.Lists.{filter_none, filter_all}
+use Rattle.ic_expire.specs.Laws.{PutHolds, RestHolds, DueGives, DueTakes, PutKeepsOthers, CutKeepsOthers}
+use Rattle.ic_expire.proofs.Lists.{filter_none, filter_all, later_filter}
 use Rattle.ic_expire.proofs.Order.{is_before_true, is_before_from, before_before}
 
 -- ---- elements
 
-first_or_later : (x : Item) (xs : List Item) (y : Item) → Contains (x ∷ xs) y → (y ≡ x) ⊎ Contains xs y
+first_or_later : {X : Type 0} (x : X) (xs : List X) (y : X) → Contains (x ∷ xs) y → (y ≡ x) ⊎ Contains xs y
 first_or_later x xs y (zero, lt, e) = inl (sym e)
 first_or_later x xs y (suc k, lt, e) = inr (k, omega arith, e)
 
-is_first : (x : Item) (xs : List Item) → Contains (x ∷ xs) x
+is_first : {X : Type 0} (x : X) (xs : List X) → Contains (x ∷ xs) x
 is_first x xs = (0, omega arith, refl)
 
-is_later : (x : Item) (xs : List Item) (y : Item) → Contains xs y → Contains (x ∷ xs) y
+is_later : {X : Type 0} (x : X) (xs : List X) (y : X) → Contains xs y → Contains (x ∷ xs) y
 is_later x xs y (k, lt, e) = (suc k, omega arith, e)
 
 passing : (p : Item → Bool) (xs : List Item) (y : Item) → Contains xs y → p y ≡ true → Contains (filter p xs) y
@@ -64,6 +66,68 @@ put_holds held x y = (
   where
     before : Item → Bool
     before z = is_lt (item_cmp z x)
+
+-- ---- what a question gives
+
+from_packets : (xs : List Item) (p : Due) → Contains (map packet_of xs) p → (x : Item) × Contains xs x × (packet_of x ≡ p)
+from_packets [] p (k, lt, e) = absurd (omega arith)
+from_packets (x ∷ xs) p h =
+    elim (first_or_later (packet_of x) (map packet_of xs) p h) [
+      | inl e ↦ (x, is_first x xs, sym e)
+      | inr later ↦ let found = from_packets xs p later in (found.0, is_later x xs found.0 found.1, found.2)
+    ]
+
+to_packets : (xs : List Item) (x : Item) → Contains xs x → Contains (map packet_of xs) (packet_of x)
+to_packets [] x (k, lt, e) = absurd (omega arith)
+to_packets (y ∷ xs) x h =
+    elim (first_or_later y xs x h) [
+      | inl e ↦ subst (λ (p : Due). Contains (map packet_of (y ∷ xs)) p) (ap packet_of (sym e)) (is_first (packet_of y) (map packet_of xs))
+      | inr later ↦ is_later (packet_of y) (map packet_of xs) (packet_of x) (to_packets xs x later)
+    ]
+
+named : (x : Item) (p : Due) → packet_of x ≡ p → x ≡ record { due = x.due; conn = p.conn; seq = p.seq }
+named x p e = ap (λ (q : Due). record { due = x.due; conn = q.conn; seq = q.seq }) e
+
+pub due_gives : DueGives
+due_gives held now p = (
+  λ h.
+      let found = from_packets (filter (is_due now) held) p h in
+      let both = filtered (is_due now) held found.0 found.1 in
+      (found.0.due, subst (Contains held) (named found.0 p found.2) both.0, leb-true found.0.due now both.1),
+  λ h.
+      let x : Item = record { due = h.0; conn = p.conn; seq = p.seq } in
+      to_packets (filter (is_due now) held) x (passing (is_due now) held x h.1 (le-leb h.0 now h.2)),
+)
+
+-- a packet that waits once waits until one tick
+one_packet : (xs : List Item) (x y : Item) → EachLater AreOthers xs → Contains xs x → Contains xs y → packet_of x ≡ packet_of y → x ≡ y
+one_packet [] x y once (k, lt, e) inside same = absurd (omega arith)
+one_packet (z ∷ xs) x y once hx hy same =
+    elim (first_or_later z xs x hx) [
+      | inl ex ↦ elim (first_or_later z xs y hy) [
+        | inl ey ↦ ex ∙ sym ey
+        | inr later ↦ absurd (All-contains (AreOthers z) xs y once.0 later (ap packet_of (sym ex) ∙ same))
+      ]
+      | inr later_x ↦ elim (first_or_later z xs y hy) [
+        | inl ey ↦ absurd (All-contains (AreOthers z) xs x once.0 later_x (ap packet_of (sym ey) ∙ sym same))
+        | inr later_y ↦ one_packet xs x y once.1 later_x later_y same
+      ]
+    ]
+
+given_once : (xs : List Item) → EachLater AreOthers xs → AllPairs (λ p q. p ≢ q) (map packet_of xs)
+given_once [] once = λ i j d lt within. absurd (omega arith)
+given_once (x ∷ xs) once =
+    AllPairs-cons (λ p q. p ≢ q) (packet_of x) (map packet_of xs) (All-map (λ q. packet_of x ≢ q) packet_of xs once.0) (given_once xs once.1)
+
+pub due_takes : DueTakes
+due_takes held now once = (
+  given_once (filter (is_due now) held) (later_filter AreOthers (is_due now) held once),
+  λ p given waits.
+      let taken = (due_gives held now p).0 given in
+      let left = (rest_holds held (is_due now) (record { due = waits.0; conn = p.conn; seq = p.seq })).0 waits.1 in
+      let same = one_packet held (record { due = taken.0; conn = p.conn; seq = p.seq }) (record { due = waits.0; conn = p.conn; seq = p.seq }) once taken.1 left.0 refl in
+      omega (arith, taken.2, leb-false waits.0 now left.1, ap (λ (x : Item). x.due) same),
+)
 
 -- ---- other connections
 

@@ -1,8 +1,9 @@
 -- What a queue holds.
-use Rattle.std.specs.Prelude.{ℕ, ◌+◌, ◌≤◌, List, [], ◌∷◌, ◌++◌, length, not, ⊤, filter, All, Contains, Bool}
+use Rattle.std.specs.Prelude.{map, ℕ, ◌+◌, ◌≤◌, List, [], ◌∷◌, ◌++◌, length, not, ⊤, filter, All, Contains, Bool}
 use Rattle.std.specs.Ordering.{is_lt}
 use Rattle.ic_expire.specs.declared.item.Item.{Item}
-use Rattle.ic_expire.specs.Items.{item_cmp, IsBefore, AreOthers, is_of}
+use Rattle.ic_expire.specs.declared.dues.Due.{Due}
+use Rattle.ic_expire.specs.Items.{item_cmp, IsBefore, AreOthers, packet_of, is_due, is_of}
 
 -- ---- lists of items
 
@@ -22,6 +23,10 @@ with_item x held = filter (λ y. is_lt (item_cmp y x)) held ++ x ∷ without (λ
 -- those about packets of one connection
 abbrev pub held_of : ℕ → List Item → List Item
 held_of conn held = filter (is_of conn) held
+
+-- the packets whose time is over by this tick
+abbrev pub dues_of : ℕ → List Item → List Due
+dues_of now held = map packet_of (filter (is_due now) held)
 
 -- the packet waits, until some tick
 abbrev pub IsHeld : ℕ → ℕ → List Item → Type 0

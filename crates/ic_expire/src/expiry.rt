@@ -2,7 +2,7 @@
 ghost use Rattle.std.specs.Prelude.{◌≡◌, ◌+◌, ◌<◌, ◌≤◌, [], ◌∷◌, ◌++◌, length, map, filter, take, drop, vec_len, vec_capacity, IfOk, OnOk, OnErr};
 ghost use Rattle.std.specs.Ordering.{is_lt};
 ghost use Rattle.ic_expire.specs.Items.{item_cmp, IsBefore, packet_of, is_due, is_upto};
-ghost use Rattle.ic_expire.specs.Queue.{EachLater, without, with_item, IsHeld, IsQueue};
+ghost use Rattle.ic_expire.specs.Queue.{EachLater, without, with_item, dues_of, IsHeld, IsQueue};
 
 use crate::dues::{Due, Dues};
 use crate::item::Item;
@@ -131,7 +131,7 @@ impl Expiry {
     /// connection, then number. Allocates once, and not at all where nothing is due.
     pub fn due(&mut self, alloc: Global, now: u64) -> Result<Dues, AllocError>
         requires { self.old.asked ≤ now }
-        ensures ok { IfOk result (λ dues. dues ≡ map packet_of (filter (is_due now) self.old.held)) }
+        ensures ok { IfOk result (λ dues. dues ≡ dues_of now self.old.held) }
         ensures left { OnOk result (self.new ≡ record self.old { held = without (is_due now) self.old.held; asked = now }) }
         ensures memory { OnErr result (self.new ≡ self.old) }
         ensures stands { IsQueue self.new }

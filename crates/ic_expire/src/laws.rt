@@ -1,5 +1,5 @@
 // Laws of the queue, each carried by a function that has nothing to run.
-ghost use Rattle.ic_expire.specs.Laws.{PutHolds, RestHolds, PutKeepsOthers, CutKeepsOthers};
+ghost use Rattle.ic_expire.specs.Laws.{PutHolds, RestHolds, DueGives, DueTakes, PutKeepsOthers, CutKeepsOthers};
 
 /// With one more item a queue holds this one and what it held.
 pub fn put_holds()
@@ -9,6 +9,16 @@ pub fn put_holds()
 /// Without the items of a test a queue holds what it held that doesn't pass it.
 pub fn rest_holds()
     ensures { RestHolds }
+{}
+
+/// The packets that a question gives are those whose time is over.
+pub fn due_gives()
+    ensures { DueGives }
+{}
+
+/// A question gives a packet once, and it waits no more.
+pub fn due_takes()
+    ensures { DueTakes }
 {}
 
 /// A put for one connection leaves what waits for every other.

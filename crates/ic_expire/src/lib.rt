@@ -15,7 +15,7 @@ mod laws;
 
 pub use dues::{Due, Dues};
 pub use expiry::Expiry;
-pub use laws::{cut_keeps_others, put_holds, put_keeps_others, rest_holds};
+pub use laws::{cut_keeps_others, due_gives, due_takes, put_holds, put_keeps_others, rest_holds};
 
 #[cfg(test)]
 mod tests;
