@@ -7,7 +7,7 @@ use Rattle.ic_header.specs.declared.fault.HeaderFault.{HeaderFault}
 use Rattle.ic_header.specs.Reading.{read_header}
 use Rattle.ic_header.proofs.Joining.{reads_spelled}
 use Rattle.gd_sim.specs.declared.conn.Conn.{Conn}
-use Rattle.gd_sim.specs.declared.datagram.Datagram.{Datagram}
+use Rattle.ic_base.specs.declared.datagram.Datagram.{Datagram}
 use Rattle.gd_sim.specs.declared.history.HubAsk.TheVariants.{Arrive, TakeFrom}
 use Rattle.gd_sim.specs.declared.history.HubReply.TheVariants.{Came, Took}
 use Rattle.gd_sim.specs.declared.history.Entry.{Entry}

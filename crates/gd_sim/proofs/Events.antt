@@ -5,7 +5,7 @@ use Rattle.std.proofs.lemmas.Bool.Decides.{eqb_tells, leb_tells}
 use Rattle.std.proofs.lemmas.List.Elements.{Contains-append_cases}
 use Rattle.std.specs.List.{Contains}
 use Rattle.gd_sim.specs.declared.conn.Conn.{Conn}
-use Rattle.gd_sim.specs.declared.datagram.Datagram.{Datagram}
+use Rattle.ic_base.specs.declared.datagram.Datagram.{Datagram}
 use Rattle.gd_sim.specs.declared.history.HubAsk.TheVariants.{Arrive, Tick}
 use Rattle.gd_sim.specs.declared.history.HubReply.TheVariants.{Came, Ticked}
 use Rattle.gd_sim.specs.declared.history.Entry.{Entry}

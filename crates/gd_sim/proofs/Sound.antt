@@ -5,7 +5,7 @@ use Rattle.std.proofs.lemmas.List.{length-map}
 use Rattle.std.specs.List.{Contains}
 use Rattle.ic_base.specs.declared.keys.ConnKey.{ConnKey}
 use Rattle.gd_sim.specs.declared.conn.Conn.{Conn}
-use Rattle.gd_sim.specs.declared.datagram.Datagram.{Datagram}
+use Rattle.ic_base.specs.declared.datagram.Datagram.{Datagram}
 use Rattle.gd_sim.specs.declared.history.Entry.{Entry}
 use Rattle.gd_sim.specs.Keys.{dispatcher, gather_key, node_of}
 use Rattle.gd_sim.specs.History.{history_at, emits, arrives, takes, emitted_of}

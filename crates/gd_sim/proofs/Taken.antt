@@ -7,10 +7,10 @@ use Rattle.std.specs.List.{list_any, Contains}
 use Rattle.ic_base.specs.declared.keys.ConnKey.{ConnKey}
 use Rattle.ic_header.specs.Spelling.{Heads}
 use Rattle.gd_sim.specs.declared.conn.Conn.{Conn}
-use Rattle.gd_sim.specs.declared.datagram.Datagram.{Datagram}
+use Rattle.ic_base.specs.declared.datagram.Datagram.{Datagram}
 use Rattle.gd_sim.specs.declared.history.HubAsk.TheVariants.{TakeFrom, Arrive}
 use Rattle.gd_sim.specs.declared.history.HubReply.TheVariants.{Took, Came}
-use Rattle.gd_sim.specs.declared.history.Parcel.{Parcel}
+use Rattle.ic_base.specs.declared.datagram.Parcel.{Parcel}
 use Rattle.gd_sim.specs.declared.history.Entry.{Entry}
 use Rattle.gd_sim.specs.Keys.{dispatcher, gather_key}
 use Rattle.gd_sim.specs.Packets.{packet_header, ack_header, payload_of_next, is_last_next, end_bytes, ack_of, Fits}

@@ -12,10 +12,10 @@ use Rattle.ic_header.specs.Reading.{read_header}
 use Rattle.ic_chunk.specs.Assembly.{together}
 use Rattle.ic_chunk.specs.Joining.{Stands}
 use Rattle.gd_sim.specs.declared.conn.Conn.{Conn}
-use Rattle.gd_sim.specs.declared.datagram.Datagram.{Datagram}
+use Rattle.ic_base.specs.declared.datagram.Datagram.{Datagram}
 use Rattle.gd_sim.specs.declared.taker.Stream.{Stream}
 use Rattle.gd_sim.specs.declared.history.Entry.{Entry}
-use Rattle.gd_sim.specs.declared.history.Parcel.{Parcel}
+use Rattle.ic_base.specs.declared.datagram.Parcel.{Parcel}
 use Rattle.gd_sim.specs.declared.history.HubAsk.TheVariants.{Arrive, TakeFrom}
 use Rattle.gd_sim.specs.declared.history.HubReply.TheVariants.{Came, Took}
 use Rattle.gd_sim.specs.Keys.{gather_key, key_eq, place_of}

@@ -2,12 +2,12 @@
 use Rattle.std.specs.Prelude.{◌≡◌, ℕ, List, [], ◌∷◌, map, Bool, true, false, if◌then◌else◌, slice_index_or}
 use Rattle.std.specs.List.{flat_map, list_any}
 use Rattle.ic_base.specs.declared.keys.ConnKey.{ConnKey}
-use Rattle.gd_sim.specs.declared.datagram.Datagram.{Datagram}
+use Rattle.ic_base.specs.declared.datagram.Datagram.{Datagram}
 use Rattle.gd_sim.specs.declared.history.HubAsk.{HubAsk}
 use Rattle.gd_sim.specs.declared.history.HubAsk.TheVariants.{Put, Finish, TakeFrom, Arrive, Tick}
 use Rattle.gd_sim.specs.declared.history.HubReply.{HubReply}
 use Rattle.gd_sim.specs.declared.history.HubReply.TheVariants.{Gave, Took, Came, Ticked}
-use Rattle.gd_sim.specs.declared.history.Parcel.{Parcel}
+use Rattle.ic_base.specs.declared.datagram.Parcel.{Parcel}
 use Rattle.gd_sim.specs.declared.history.Entry.{Entry}
 use Rattle.gd_sim.specs.Keys.{key_eq}
 use Rattle.gd_sim.specs.Packets.{number_in}

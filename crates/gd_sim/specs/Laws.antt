@@ -4,10 +4,10 @@ use Rattle.ic_base.specs.declared.keys.ConnKey.{ConnKey}
 use Rattle.ic_row.specs.declared.value.Value.{Value}
 use Rattle.ic_header.specs.Spelling.{Heads}
 use Rattle.ic_chunk.specs.Assembly.{Assembles, together}
-use Rattle.gd_sim.specs.declared.datagram.Datagram.{Datagram}
+use Rattle.ic_base.specs.declared.datagram.Datagram.{Datagram}
 use Rattle.gd_sim.specs.declared.history.HubAsk.TheVariants.{TakeFrom}
 use Rattle.gd_sim.specs.declared.history.HubReply.TheVariants.{Took}
-use Rattle.gd_sim.specs.declared.history.Parcel.{Parcel}
+use Rattle.ic_base.specs.declared.datagram.Parcel.{Parcel}
 use Rattle.gd_sim.specs.declared.history.Entry.{Entry}
 use Rattle.gd_sim.specs.Keys.{dispatcher, gather_key, key_eq, node_of}
 use Rattle.gd_sim.specs.Packets.{packet_header, ack_header, packet_behind}

@@ -8,7 +8,7 @@ use Rattle.ic_header.specs.declared.flags.Flags.TheVariants.{Rows, LastRows, Que
 use Rattle.ic_header.specs.Spelling.{written}
 use Rattle.ic_header.specs.Reading.{read_header}
 use Rattle.ic_chunk.specs.Chunks.{spelled, end_of_stream}
-use Rattle.gd_sim.specs.declared.datagram.Datagram.{Datagram}
+use Rattle.ic_base.specs.declared.datagram.Datagram.{Datagram}
 use Rattle.gd_sim.specs.Keys.{key_eq}
 
 -- ---- headers

@@ -10,11 +10,11 @@ use Rattle.ic_header.specs.Reading.{read_header}
 use Rattle.ic_chunk.specs.Chunks.{spelled}
 use Rattle.ic_chunk.specs.Cutting.{chunks_of}
 use Rattle.gd_sim.specs.declared.conn.Conn.{Conn}
-use Rattle.gd_sim.specs.declared.datagram.Datagram.{Datagram}
+use Rattle.ic_base.specs.declared.datagram.Datagram.{Datagram}
 use Rattle.gd_sim.specs.declared.history.HubAsk.{HubAsk}
 use Rattle.gd_sim.specs.declared.history.HubAsk.TheVariants.{Put, Finish, TakeFrom, Arrive, Tick}
 use Rattle.gd_sim.specs.declared.history.HubReply.TheVariants.{Gave, Took, Came, Ticked}
-use Rattle.gd_sim.specs.declared.history.Parcel.{Parcel}
+use Rattle.ic_base.specs.declared.datagram.Parcel.{Parcel}
 use Rattle.gd_sim.specs.declared.history.Entry.{Entry}
 use Rattle.gd_sim.specs.declared.tally.Tally.{Tally}
 use Rattle.gd_sim.specs.Keys.{gather_key, place_of}

@@ -8,7 +8,7 @@ use Rattle.ic_header.specs.Reading.{read_header}
 use Rattle.ic_chunk.specs.Assembly.{together}
 use Rattle.ic_chunk.specs.Joining.{Stands}
 use Rattle.gd_sim.specs.declared.conn.Conn.{Conn}
-use Rattle.gd_sim.specs.declared.datagram.Datagram.{Datagram}
+use Rattle.ic_base.specs.declared.datagram.Datagram.{Datagram}
 use Rattle.gd_sim.specs.declared.sim.Taken.{Taken}
 use Rattle.gd_sim.specs.declared.taker.Stream.{Stream}
 use Rattle.gd_sim.specs.Keys.{gather_key, place_of}

@@ -3,11 +3,10 @@ ghost use Rattle.std.specs.Prelude.{◌≡◌, ◌<◌, ◌+◌, ◌-◌, ◌==�
 ghost use Rattle.gd_sim.specs.Packets.{header_of, packet_with, ack_of, rows_flags, is_last, end_bytes};
 ghost use Rattle.gd_sim.specs.Rounds.{is_ready, is_next, is_patient, is_done, packet, ask_behind, new_conn, told};
 
-use crate::datagram::Datagram;
 use crate::history::HubAsk;
 use crate::rows::Chunks;
 use crate::tally::Tally;
-use ic_base::{Bytes, ConnKey};
+use ic_base::{Bytes, ConnKey, Datagram};
 use ic_chunk::push_end_of_stream;
 use ic_header::{Flags, Header, write};
 use std::alloc::{AllocError, Global};

@@ -1,20 +1,9 @@
 // What each node was asked, and what it replied.
 ghost use Rattle.std.specs.Prelude.{◌≡◌, ℕ, List, [], ◌∷◌, ◌++◌, length, IfOk, OnOk, OnErr};
 
-use crate::datagram::{Datagram, Datagrams};
-use ic_base::{Bytes, ConnKey, SegId};
+use ic_base::{Bytes, ConnKey, Datagram, Datagrams, Parcel};
 use std::alloc::{AllocError, Global};
 use std::marker::Model;
-
-/// What the receiver took from one sender: the body of one packet.
-#[derive(Drop)]
-pub struct Parcel {
-    pub from: SegId,
-    /// Tuple chunks.
-    pub payload: Bytes,
-    /// Whether the packet was flagged as the last one of its stream.
-    pub last: bool,
-}
 
 /// One ask to a node.
 #[derive(Drop)]

@@ -11,7 +11,6 @@
 #![tactic(auto)]
 
 mod conn;
-mod datagram;
 mod history;
 mod play;
 mod rows;
@@ -20,8 +19,7 @@ mod sim;
 mod taker;
 mod tally;
 
-pub use datagram::{Datagram, Datagrams};
-pub use history::{Entry, Histories, History, HubAsk, HubReply, Parcel};
+pub use history::{Entry, Histories, History, HubAsk, HubReply};
 pub use rows::{Chunks, Parts};
 pub use run::{FirstNo, FirstRun, first_run};
 pub use tally::{Tallies, Tally};

@@ -4,9 +4,9 @@ ghost use Rattle.std.specs.List.{list_all};
 ghost use Rattle.gd_sim.specs.Rounds.{arrive, all_arrive, round, rounds_of, is_done};
 ghost use Rattle.gd_sim.specs.Taking.{taken_by, GainsOf, Stand};
 
-use crate::datagram::Datagram;
 use crate::sim::Sim;
 use crate::taker::Taker;
+use ic_base::Datagram;
 use std::alloc::AllocError;
 
 /// A run in progress.

@@ -12,14 +12,13 @@ ghost use Rattle.gd_sim.specs.Taking.{fresh_stream};
 ghost use Rattle.gd_sim.specs.Telling.{tellings};
 
 use crate::conn::Conn;
-use crate::datagram::Datagrams;
 use crate::history::Histories;
 use crate::play::Play;
 use crate::rows::{Chunks, Parts};
 use crate::sim::Sim;
 use crate::taker::{Stream, Taker};
 use crate::tally::Tallies;
-use ic_base::{Bytes, ConnKey, Drops, SegId};
+use ic_base::{Bytes, ConnKey, Datagrams, Drops, SegId};
 use ic_chunk::Splitter;
 use ic_row::{Rows, spell};
 use std::alloc::{AllocError, Global};

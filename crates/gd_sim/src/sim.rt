@@ -8,9 +8,8 @@ ghost use Rattle.gd_sim.specs.Rounds.{State, is_lost, kept, is_done, send, heard
 ghost use Rattle.gd_sim.specs.Taking.{taking, taken_by, taken_at};
 
 use crate::conn::{Conn, ack_for, is_last};
-use crate::datagram::{Datagram, Datagrams};
-use crate::history::{Histories, HubAsk, HubReply, Parcel};
-use ic_base::{Bytes, Drops, SegId};
+use crate::history::{Histories, HubAsk, HubReply};
+use ic_base::{Bytes, Datagram, Datagrams, Drops, Parcel, SegId};
 use ic_header::{Header, read};
 use std::alloc::{AllocError, Global};
 use std::marker::Model;

@@ -1,5 +1,5 @@
 // The names of segments and connections.
-ghost use Rattle.std.specs.Prelude.{◌≡◌, ℤ, pos, negsuc, ◌≤ℤ◌, ◌↔◌, IsSome, IfSome};
+ghost use Rattle.std.specs.Prelude.{◌≡◌, ℤ, List, pos, negsuc, ◌≤ℤ◌, ◌↔◌, IsSome, IfSome};
 
 use std::marker::Model;
 
@@ -56,4 +56,83 @@ pub struct ConnKey {
     pub motion: u32,
     pub from: SegId,
     pub to: SegId,
+}
+
+/// One end of a connection at a segment, with the numbers of the slices between which the rows go.
+#[derive(Clone, Copy, Debug, PartialEq, Eq)]
+pub struct ConnEnd {
+    pub key: ConnKey,
+    /// Whether this is the end that sends the rows.
+    pub sending: bool,
+    pub send_slice: u32,
+    pub recv_slice: u32,
+}
+
+/// Ends of connections, seen as a list.
+#[derive(Drop, Debug)]
+pub struct ConnEnds {
+    items: Vec<ConnEnd>,
+}
+
+impl Model for ConnEnds {
+    ghost use Rattle.std.specs.Prelude.{List};
+    ghost use Rattle.ic_base.specs.declared.keys.ConnEnd.{ConnEnd};
+
+    ghost Value = { List ConnEnd };
+
+    ghost view = { λ e. e.items.items };
+}
+
+impl ConnEnds {
+    /// Takes no memory.
+    pub fn from_vec(items: Vec<ConnEnd>) -> ConnEnds
+        ensures { result ≡ items.items }
+    {
+        ConnEnds { items }
+    }
+
+    pub fn as_slice(&self) -> &[ConnEnd]
+        ensures { result.now ≡ self.now }
+    {
+        self.items.as_slice()
+    }
+}
+
+/// Segments, seen as a list of their numbers.
+#[derive(Drop, Debug)]
+pub struct Segs {
+    items: Vec<SegId>,
+}
+
+impl Model for Segs {
+    ghost use Rattle.std.specs.Prelude.{List, ℤ};
+
+    ghost Value = { List ℤ };
+
+    ghost view = { λ s. s.items.items };
+}
+
+impl Segs {
+    /// Takes no memory.
+    pub fn from_vec(items: Vec<SegId>) -> Segs
+        ensures { result ≡ items.items }
+    {
+        Segs { items }
+    }
+
+    pub fn as_slice(&self) -> &[SegId]
+        ensures { result.now ≡ self.now }
+    {
+        self.items.as_slice()
+    }
+}
+
+/// A query isn't begun.
+#[derive(Clone, Copy, Debug, PartialEq, Eq)]
+pub enum BeginNo {
+    /// Its number is at most the greatest that has ended, which is this one.
+    Old(u32),
+    /// It is live.
+    Twice,
+    Memory,
 }

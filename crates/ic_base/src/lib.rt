@@ -1,17 +1,21 @@
-//! Names, bytes and texts that every layer shares. No codec, no connection and no clock.
+//! Names, settings, datagrams, bytes and texts that every layer shares. No codec, no connection and no clock.
 //!
 //! Each type here is a small one over a `Vec`, a `String` or a number, and contracts see it as a list or a number.
 //! Above: every other crate of the workspace.
 #![tactic(auto)]
 
 mod bytes;
+mod datagram;
 mod drops;
 mod keys;
+mod settings;
 #[cfg(test)]
 mod tests;
 mod text;
 
 pub use bytes::Bytes;
+pub use datagram::{Datagram, Datagrams, Parcel};
 pub use drops::Drops;
-pub use keys::{ConnKey, SegId};
+pub use keys::{BeginNo, ConnEnd, ConnEnds, ConnKey, SegId, Segs};
+pub use settings::{Field, Flow, OutOfRange, Settings};
 pub use text::Text;

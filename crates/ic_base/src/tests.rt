@@ -41,3 +41,117 @@ fn segments_are_numbered_from_the_dispatcher_to_63(rt: HostRuntime) -> Result<()
     assert_eq!(rt; dispatcher.number(), -1);
     Ok(())
 }
+
+#[test]
+fn settings_are_refused_at_the_first_field_out_of_range(rt: HostRuntime) -> Result<(), Fail> {
+    let given = Settings::default();
+    assert_eq!(rt; given.checked(), Ok(Settings::DEFAULT));
+    let least = Settings {
+        packet: 128,
+        receive_depth: 1,
+        send_depth: 1,
+        retries: 1,
+        flow: Flow::Capacity,
+    };
+    let greatest = Settings {
+        packet: 65507,
+        receive_depth: 256,
+        send_depth: 256,
+        retries: 1000,
+        flow: Flow::Loss,
+    };
+    for settings in [least, greatest] {
+        assert_eq!(rt; settings.checked(), Ok(settings));
+    }
+    for (settings, field) in [
+        (
+            Settings {
+                packet: 127,
+                retries: 0,
+                ..given
+            },
+            Field::Packet,
+        ),
+        (
+            Settings {
+                packet: 65508,
+                ..given
+            },
+            Field::Packet,
+        ),
+        (
+            Settings {
+                receive_depth: 0,
+                send_depth: 0,
+                ..given
+            },
+            Field::ReceiveDepth,
+        ),
+        (
+            Settings {
+                receive_depth: 257,
+                ..given
+            },
+            Field::ReceiveDepth,
+        ),
+        (
+            Settings {
+                send_depth: 0,
+                ..given
+            },
+            Field::SendDepth,
+        ),
+        (
+            Settings {
+                send_depth: 257,
+                retries: 1001,
+                ..given
+            },
+            Field::SendDepth,
+        ),
+        (
+            Settings {
+                retries: 0,
+                ..given
+            },
+            Field::Retries,
+        ),
+        (
+            Settings {
+                retries: 1001,
+                ..given
+            },
+            Field::Retries,
+        ),
+    ] {
+        assert_eq!(rt; settings.checked(), Err(OutOfRange { field }));
+    }
+    Ok(())
+}
+
+#[test]
+fn datagrams_stand_in_order_and_share_their_bytes(rt: HostRuntime) -> Result<(), Fail> {
+    let segment = SegId::new(3).ok_or("none")?;
+    let first = Datagram {
+        from: segment,
+        to: SegId::DISPATCHER,
+        bytes: Bytes::from_slice(rt.alloc(), b"ab")?,
+    };
+    let copy = first.share()?;
+    let mut all = Datagrams::one(rt.alloc(), first)?;
+    all.push(Datagram {
+        from: SegId::DISPATCHER,
+        to: segment,
+        bytes: copy.bytes.share()?,
+    })?;
+    assert_eq!(rt; all.as_slice()[0].to, SegId::DISPATCHER);
+    assert_eq!(rt; all.as_slice()[1].from, SegId::DISPATCHER);
+    let items = all.into_vec();
+    assert_eq!(rt; items.len(), 2);
+    assert_eq!(rt;
+        Datagrams::from_vec(items).as_slice()[1].bytes.as_slice(),
+        b"ab".as_slice()
+    );
+    assert_eq!(rt; Datagrams::new(rt.alloc()).as_slice().len(), 0);
+    Ok(())
+}

@@ -1,11 +1,12 @@
-// What travels.
+// What travels, and what is taken of it.
 ghost use Rattle.std.specs.Prelude.{◌≡◌, ℕ, List, [], ◌∷◌, ◌++◌, IfOk, OnOk, OnErr};
 
-use ic_base::{Bytes, SegId};
+use crate::bytes::Bytes;
+use crate::keys::SegId;
 use std::alloc::{AllocError, Global};
 use std::marker::Model;
 
-/// A datagram of the network in memory: its two ends and its bytes, which are a packet header and a body.
+/// A datagram: the two segments between which it travels and its bytes, which are a packet header and a body.
 #[derive(Drop)]
 pub struct Datagram {
     /// The end that emits it.
@@ -35,7 +36,7 @@ pub struct Datagrams {
 
 impl Model for Datagrams {
     ghost use Rattle.std.specs.Prelude.{List};
-    ghost use Rattle.gd_sim.specs.declared.datagram.Datagram.{Datagram};
+    ghost use Rattle.ic_base.specs.declared.datagram.Datagram.{Datagram};
 
     ghost Value = { List Datagram };
 
@@ -43,7 +44,7 @@ impl Model for Datagrams {
 }
 
 impl Datagrams {
-    /// No datagrams.
+    /// No datagrams. Takes no memory.
     pub fn new(alloc: Global) -> Datagrams
         ensures { result ≡ [] }
     {
@@ -61,6 +62,20 @@ impl Datagrams {
         Ok(Datagrams { items })
     }
 
+    /// Takes no memory.
+    pub fn from_vec(items: Vec<Datagram>) -> Datagrams
+        ensures { result ≡ items.items }
+    {
+        Datagrams { items }
+    }
+
+    /// Takes no memory.
+    pub fn into_vec(self) -> Vec<Datagram>
+        ensures { result.items ≡ self }
+    {
+        self.items
+    }
+
     pub fn as_slice(&self) -> &[Datagram]
         ensures { result.now ≡ self.now }
     {
@@ -75,4 +90,14 @@ impl Datagrams {
         self.items.push(datagram)?;
         Ok(())
     }
+}
+
+/// What a receiver takes from one sender: the body of one packet.
+#[derive(Drop)]
+pub struct Parcel {
+    pub from: SegId,
+    /// Tuple chunks.
+    pub payload: Bytes,
+    /// Whether the packet was flagged as the last one of its stream.
+    pub last: bool,
 }

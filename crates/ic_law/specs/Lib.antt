@@ -1,0 +1,10 @@
+pub mod Packets
+pub mod History
+pub mod Filling
+pub mod Numbers
+pub mod Points
+pub mod Receiving
+pub mod Sending
+pub mod Arriving
+pub mod Hub
+pub mod Streams

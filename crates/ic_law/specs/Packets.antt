@@ -1,0 +1,114 @@
+-- Packets: what a datagram's bytes read as, and the datagrams that the ends of a connection make.
+use Rattle.std.specs.Prelude.{ℕ, ◌+◌, ℤ, pos, negsuc, ◌≤ℤ◌, List, ◌++◌, length, Bool, true, false, Option, Some, None, Result, Ok, Err}
+use Rattle.ic_base.specs.declared.keys.ConnKey.{ConnKey}
+use Rattle.ic_base.specs.declared.keys.ConnEnd.{ConnEnd}
+use Rattle.ic_base.specs.declared.datagram.Datagram.{Datagram}
+use Rattle.ic_header.specs.declared.header.Header.{Header}
+use Rattle.ic_header.specs.declared.fault.HeaderFault.{HeaderFault}
+use Rattle.ic_header.specs.declared.flags.Flags.{Flags}
+use Rattle.ic_header.specs.declared.flags.Flags.TheVariants.{Rows, LastRows, Query, Ack, Stop, Nak, Disorder, Duplicate}
+use Rattle.ic_header.specs.Spelling.{written}
+use Rattle.ic_header.specs.Reading.{read_header}
+
+-- ---- reading
+
+-- a header with the body behind it
+pub record Packet : Type 0 where
+  pub head : Header
+  pub body : List ℕ
+
+abbrev pub packet_read : Result (Header × List ℕ) HeaderFault → Option Packet
+packet_read (Ok r) = Some (record { head = r.0; body = r.1 })
+packet_read (Err fault) = None
+
+-- the packet that a datagram's bytes are, if they are one
+unfoldable pub packet_of : Datagram → Option Packet
+packet_of d = packet_read (read_header d.bytes)
+
+-- the connection that a header speaks of, in packets of both directions
+abbrev pub key_of : Header → ConnKey
+key_of h = record { session = h.session; query = h.query; motion = h.motion; from = h.src_content; to = h.dst_content }
+
+-- a packet of rows
+abbrev pub is_rows : Flags → Bool
+is_rows Rows = true
+is_rows LastRows = true
+is_rows Query = false
+is_rows Ack = false
+is_rows Stop = false
+is_rows Nak = false
+is_rows Disorder = false
+is_rows Duplicate = false
+
+-- a packet of rows whose stream ends with it
+abbrev pub is_last : Flags → Bool
+is_last Rows = false
+is_last LastRows = true
+is_last Query = false
+is_last Ack = false
+is_last Stop = false
+is_last Nak = false
+is_last Disorder = false
+is_last Duplicate = false
+
+-- a packet from the sending end to the receiving one; the others are answers
+abbrev pub goes_forth : Flags → Bool
+goes_forth Rows = true
+goes_forth LastRows = true
+goes_forth Query = true
+goes_forth Ack = false
+goes_forth Stop = false
+goes_forth Nak = false
+goes_forth Disorder = false
+goes_forth Duplicate = false
+
+-- the number of a segment
+abbrev pub IsSegment : ℤ → Type 0
+IsSegment n = (negsuc 0 ≤ℤ n) × (n ≤ℤ pos 63)
+
+-- ---- making
+
+-- the header of a packet of an end's connection: both pids and ports are 0, and len counts the header's 64 bytes too
+abbrev pub header_for : ConnEnd → Flags → ℕ → ℕ → ℕ → Header
+header_for end flags size seq extra =
+    record {
+      motion = end.key.motion;
+      src_pid = 0;
+      src_port = 0;
+      dst_pid = 0;
+      dst_port = 0;
+      session = end.key.session;
+      query = end.key.query;
+      recv_slice = end.recv_slice;
+      send_slice = end.send_slice;
+      src_content = end.key.from;
+      dst_content = end.key.to;
+      flags = flags;
+      len = 64 + size;
+      seq = seq;
+      extra = extra;
+    }
+
+abbrev pub rows_flags : Bool → Flags
+rows_flags true = LastRows
+rows_flags false = Rows
+
+-- a packet of rows, with its number, its payload and whether the stream ends with it
+pub record RowPacket : Type 0 where
+  pub seq : ℕ
+  pub payload : List ℕ
+  pub last : Bool
+
+-- its datagram
+abbrev pub row_datagram : ConnEnd → RowPacket → Datagram
+row_datagram end p =
+    record { from = end.key.from; to = end.key.to; bytes = written (header_for end (rows_flags p.last) (length p.payload) p.seq 0) ++ p.payload }
+
+-- a status query of a sending end behind the packet of this number
+abbrev pub query_datagram : ConnEnd → ℕ → Datagram
+query_datagram end seq = record { from = end.key.from; to = end.key.to; bytes = written (header_for end Query 0 seq 0) }
+
+-- an answer of a receiving end
+abbrev pub answer_datagram : ConnEnd → Flags → ℕ → ℕ → List ℕ → Datagram
+answer_datagram end flags seq extra body =
+    record { from = end.key.to; to = end.key.from; bytes = written (header_for end flags (length body) seq extra) ++ body }

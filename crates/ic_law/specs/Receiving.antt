@@ -1,0 +1,148 @@
+-- What a receiving end answers, by what it stored and what was taken before.
+use Rattle.std.specs.Prelude.{◌≡◌, ◌≢◌, ℕ, zero, suc, ◌+◌, ◌-◌, ◌<◌, ◌≤◌, ◌⊎◌, List, [], ◌∷◌, ◌++◌, length, Bool, true, ◌==◌, if◌then◌else◌, Some, Ok, Err, Contains}
+use Rattle.std.specs.List.{flat_map, list_any}
+use Rattle.std.specs.Int.{w32, to_be_bytes}
+use Rattle.ic_base.specs.declared.keys.ConnKey.{ConnKey}
+use Rattle.ic_base.specs.declared.keys.ConnEnd.{ConnEnd}
+use Rattle.ic_base.specs.declared.settings.Settings.{Settings}
+use Rattle.ic_base.specs.declared.datagram.Datagram.{Datagram}
+use Rattle.ic_base.specs.declared.datagram.Parcel.{Parcel}
+use Rattle.ic_header.specs.declared.flags.Flags.TheVariants.{Query, Ack, Stop, Disorder, Duplicate}
+use Rattle.ic_law.specs.declared.history.HubAsk.{HubAsk}
+use Rattle.ic_law.specs.declared.history.HubAsk.TheVariants.{Begin, Put, Finish, Take, TakeFrom, Halt, Arrive, Tick, Clear, Leave}
+use Rattle.ic_law.specs.declared.history.HubReply.{HubReply}
+use Rattle.ic_law.specs.declared.history.HubReply.TheVariants.{Gave, Took, Came, Memory}
+use Rattle.ic_law.specs.declared.history.Arrived.TheVariants.{Handled, Dropped}
+use Rattle.ic_law.specs.declared.history.DropCause.TheVariants.{Beyond}
+use Rattle.ic_law.specs.declared.history.HubNo.TheVariants.{Empty, Ended}
+use Rattle.ic_law.specs.declared.history.Entry.{Entry}
+use Rattle.ic_law.specs.Packets.{Packet, RowPacket, packet_of, key_of, answer_datagram}
+use Rattle.ic_law.specs.History.{rows_in, parcels_of, stored_of, stored_numbers_of, IsHalted}
+use Rattle.ic_law.specs.Points.{IsDirected, IsEnded, IsHere, TakesNext, Tells, StopsAsked}
+
+-- ---- numbers that came
+
+-- the end of the unbroken run of these numbers
+pub record IsRunEnd (numbers : List ℕ) (r : ℕ) : Type 0 where
+  pub run : (n : ℕ) → 1 ≤ n → n ≤ r → Contains numbers n
+  pub end : Contains numbers (r + 1) → ⊥
+
+-- the greatest of them
+pub record IsGreatest (numbers : List ℕ) (g : ℕ) : Type 0 where
+  pub bound : (n : ℕ) → Contains numbers n → n ≤ g
+  pub here : Contains numbers g
+
+abbrev pub has : List ℕ → ℕ → Bool
+has numbers n = list_any (λ m. m == n) numbers
+
+-- of so many numbers from n on, those that aren't there
+abbrev pub missing : List ℕ → ℕ → ℕ → List ℕ
+missing numbers n zero = []
+missing numbers n (suc count) = if has numbers n then missing numbers (n + 1) count else n ∷ missing numbers (n + 1) count
+
+-- the body of an answer that lists numbers, four bytes each
+abbrev pub listing : List ℕ → List ℕ
+listing numbers = flat_map (to_be_bytes w32) numbers
+
+-- ---- arrivals
+
+abbrev pub handled : Datagram → HubReply
+handled d = Came Handled (d ∷ [])
+
+-- how many packets were taken
+abbrev pub consumed_of : ConnKey → List Entry → ℕ
+consumed_of c h = length (parcels_of c h)
+
+-- What a packet of rows that comes is answered. Halted: Stop. Its number in the run, or stored: Duplicate with the
+-- run's end. Past the room, or too long: dropped. The run's next: stored, and Ack with the new end and the number
+-- taken. Behind a gap: stored, and Disorder with the greatest stored number and those that are missing below it.
+pub data AnswersRows (settings : Settings) (end : ConnEnd) (before : List Entry) (q : RowPacket) (reply : HubReply) : Type 0 where
+  Stopped : IsHalted end.key before → reply ≡ handled (answer_datagram end Stop q.seq 0 []) → AnswersRows settings end before q reply
+  Again : (r : ℕ) → (IsHalted end.key before → ⊥) → IsRunEnd (stored_numbers_of end.key before) r
+      → (q.seq ≤ r) ⊎ Contains (stored_numbers_of end.key before) q.seq
+      → reply ≡ handled (answer_datagram end Duplicate q.seq r []) → AnswersRows settings end before q reply
+  Far : (r : ℕ) → (IsHalted end.key before → ⊥) → IsRunEnd (stored_numbers_of end.key before) r
+      → r < q.seq → (Contains (stored_numbers_of end.key before) q.seq → ⊥)
+      → (consumed_of end.key before + settings.receive_depth < q.seq) ⊎ (settings.packet < length q.payload + 64)
+      → reply ≡ Came (Dropped Beyond) [] → AnswersRows settings end before q reply
+  Next : (r : ℕ) → (IsHalted end.key before → ⊥) → IsRunEnd (stored_numbers_of end.key before) (q.seq - 1) → 1 ≤ q.seq
+      → q.seq ≤ consumed_of end.key before + settings.receive_depth → length q.payload + 64 ≤ settings.packet
+      → IsRunEnd (stored_numbers_of end.key before ++ q.seq ∷ []) r
+      → reply ≡ handled (answer_datagram end Ack r (consumed_of end.key before) []) → AnswersRows settings end before q reply
+  Gap : (r g : ℕ) → (IsHalted end.key before → ⊥) → IsRunEnd (stored_numbers_of end.key before) r → r + 1 < q.seq
+      → (Contains (stored_numbers_of end.key before) q.seq → ⊥)
+      → q.seq ≤ consumed_of end.key before + settings.receive_depth → length q.payload + 64 ≤ settings.packet
+      → IsGreatest (stored_numbers_of end.key before ++ q.seq ∷ []) g
+      → reply ≡ handled (answer_datagram end Disorder q.seq g (listing (missing (stored_numbers_of end.key before ++ q.seq ∷ []) (r + 1) (g - r))))
+      → AnswersRows settings end before q reply
+
+-- what a status query that comes is answered
+pub data AnswersQuery (end : ConnEnd) (before : List Entry) (seq : ℕ) (reply : HubReply) : Type 0 where
+  QueryStopped : IsHalted end.key before → reply ≡ handled (answer_datagram end Stop seq 0 []) → AnswersQuery end before seq reply
+  QueryTold : (r : ℕ) → (IsHalted end.key before → ⊥) → IsRunEnd (stored_numbers_of end.key before) r
+      → reply ≡ handled (answer_datagram end Ack r (consumed_of end.key before) []) → AnswersQuery end before seq reply
+
+-- ---- takes and halts
+
+-- this packet is the next to be taken
+pub record IsNext (c : ConnKey) (before : List Entry) (p : RowPacket) : Type 0 where
+  pub stored : Contains (stored_of c before) p
+  pub number : p.seq ≡ consumed_of c before + 1
+
+-- its parcel is taken, and Ack tells the run's end and the number taken with it
+pub record IsTaken (end : ConnEnd) (before : List Entry) (parcel : Parcel) (ds : List Datagram) : Type 0 where
+  pub packet : RowPacket
+  pub next : IsNext end.key before packet
+  pub from : parcel.from ≡ end.key.from
+  pub payload : parcel.payload ≡ packet.payload
+  pub last : parcel.last ≡ packet.last
+  pub run : ℕ
+  pub run_end : IsRunEnd (stored_numbers_of end.key before) run
+  pub told : ds ≡ answer_datagram end Ack run (consumed_of end.key before + 1) [] ∷ []
+
+-- what a take from this end is answered
+pub data AnswersTake (end : ConnEnd) (before : List Entry) (reply : HubReply) : Type 0 where
+  Over : IsEnded end.key before → reply ≡ Took (Err Ended) → AnswersTake end before reply
+  None : (IsEnded end.key before → ⊥) → ((p : RowPacket) → IsNext end.key before p → ⊥) → reply ≡ Took (Err Empty) → AnswersTake end before reply
+  Taken : (IsEnded end.key before → ⊥) → (parcel : Parcel) (ds : List Datagram) → IsTaken end before parcel ds → reply ≡ Took (Ok (parcel, ds)) → AnswersTake end before reply
+
+-- what a halt of this end is answered: Stop once, and nothing where nothing more is to be taken
+pub data AnswersHalt (end : ConnEnd) (before : List Entry) (reply : HubReply) : Type 0 where
+  HaltedNow : (IsEnded end.key before → ⊥) → reply ≡ Gave (Ok (answer_datagram end Stop 0 0 [] ∷ [])) → AnswersHalt end before reply
+  HaltedAgain : IsEnded end.key before → reply ≡ Gave (Ok []) → AnswersHalt end before reply
+
+abbrev pub TakesFrom : ConnKey → HubAsk → Parcel → Type 0
+TakesFrom c (Begin query ends) p = ⊥
+TakesFrom c (Put key chunk) p = ⊥
+TakesFrom c (Finish key) p = ⊥
+TakesFrom c (Take query motion) p = (query ≡ c.query) × (motion ≡ c.motion) × (p.from ≡ c.from)
+TakesFrom c (TakeFrom key) p = (key ≡ c) × (p.from ≡ c.from)
+TakesFrom c (Halt key) p = ⊥
+TakesFrom c (Arrive d) p = ⊥
+TakesFrom c Tick p = ⊥
+TakesFrom c (Clear query) p = ⊥
+TakesFrom c (Leave query) p = ⊥
+
+-- the entry takes this parcel of c, and emits these datagrams
+pub record IsTaking (c : ConnKey) (p : Parcel) (ds : List Datagram) (e : Entry) : Type 0 where
+  pub ask : TakesFrom c e.ask p
+  pub reply : e.reply ≡ Took (Ok (p, ds))
+
+-- ---- the points of a receiving end
+
+-- what each ask that concerns the end is answered; an ask that finds no memory is answered Memory
+pub record Answers (settings : Settings) (end : ConnEnd) (before : List Entry) (e : Entry) : Type 0 where
+  pub rows : (d : Datagram) (q : RowPacket) → e.ask ≡ Arrive d → IsDirected true d end.key → rows_in end.key d ≡ q ∷ [] → e.reply ≢ Memory
+      → AnswersRows settings end before q e.reply
+  pub query : (d : Datagram) (p : Packet) → e.ask ≡ Arrive d → IsDirected true d end.key → packet_of d ≡ Some p → key_of p.head ≡ end.key → p.head.flags ≡ Query → e.reply ≢ Memory
+      → AnswersQuery end before p.head.seq e.reply
+  pub take : (parcel : Parcel) (ds : List Datagram) → IsTaking end.key parcel ds e → (IsEnded end.key before → ⊥) × IsTaken end before parcel ds
+  pub take_from : e.ask ≡ TakeFrom end.key → e.reply ≢ Memory → AnswersTake end before e.reply
+  pub halt : e.ask ≡ Halt end.key → e.reply ≢ Memory → AnswersHalt end before e.reply
+
+-- an entry is lawful for a receiving end
+pub record Receives (settings : Settings) (end : ConnEnd) (before : List Entry) (e : Entry) : Type 0 where
+  pub taken : TakesNext end.key before e
+  pub told : Tells end.key (before ++ e ∷ []) e
+  pub stopped : StopsAsked end.key (before ++ e ∷ []) e
+  pub answered : IsHere end before → Answers settings end before e

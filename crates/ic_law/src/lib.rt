@@ -1,0 +1,18 @@
+//! Histories of hubs, and the laws on them. No hub, no ring and no clock.
+//!
+//! A history is the list of a hub's entries, each an ask with its reply. What was sent, taken, emitted and heard is
+//! read from it, and a hub's law is said of it: `specs/History.antt`, `specs/Hub.antt`. `streams_follow` is the law
+//! above all: where the network gives only what was emitted, and each hub keeps its law, the rows taken on a
+//! connection are a prefix of the rows sent.
+//!
+//! Below: `ic_base`, `ic_row`, `ic_header`, `ic_chunk`. Above: the ends of connections, and the hub.
+#![tactic(auto)]
+
+mod history;
+mod laws;
+
+pub use history::{
+    Arrived, DropCause, Entry, Histories, History, HubAsk, HubNo, HubReply, LeaveNo, TickNo,
+    Unclear,
+};
+pub use laws::streams_follow;
