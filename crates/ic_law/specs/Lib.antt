@@ -8,3 +8,4 @@ pub mod Sending
 pub mod Arriving
 pub mod Hub
 pub mod Streams
+pub mod Emission
