@@ -1,10 +1,9 @@
 -- How packets fill: the chunks put so far are those of the full packets and of the one being filled, and a packet that
 -- was sealed stays as it is.
-use Rattle.std.proofs.Common.{◌≡◌, ℕ, ◌+◌, ◌≤◌, List, [], ◌∷◌, ◌++◌, length, map, Bool, true, false, cond, ◌||◌, refl, ap, sym, ◌∙◌, subst, append_assoc, append-nil}
+use Rattle.std.proofs.Common.{◌≡◌, ℕ, List, [], ◌∷◌, ◌++◌, Bool, true, false, cond, refl, ap, sym, ◌∙◌, append_assoc, append-nil}
 use Rattle.ic_chunk.specs.Assembly.{together}
-use Rattle.ic_chunk.proofs.Lists.{together-append, together-push}
-use Rattle.ic_law.specs.Filling.{Sealed, plain, final, Filling, fits, fill_one, fill_from, filling, sealed}
-use Rattle.ic_law.proofs.Lists.{map-append}
+use Rattle.ic_chunk.proofs.Lists.{together-push}
+use Rattle.ic_law.specs.Filling.{Filling, fits, fill_one, fill_from, filling}
 
 pub fill_from-append : (packet : ℕ) (f : Filling) (xs ys : List (List ℕ)) → fill_from packet f (xs ++ ys) ≡ fill_from packet (fill_from packet f xs) ys
 fill_from-append packet f [] ys = refl

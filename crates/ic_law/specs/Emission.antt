@@ -1,5 +1,5 @@
 -- Which packets a sending end emits with each entry, when they are due again, and what a tick makes of them.
-use Rattle.std.specs.Prelude.{◌≡◌, ◌≢◌, ℕ, ◌+◌, ◌-◌, ◌<◌, ◌≤◌, min, nat_le, nat_lt, zero, suc, List, [], ◌∷◌, ◌++◌, length, map, filter, Bool, true, false, ◌&&◌, ◌==◌, if◌then◌else◌, Option, Some, None, Ok, Err, Contains, slice_get}
+use Rattle.std.specs.Prelude.{◌≡◌, ℕ, ◌+◌, ◌-◌, ◌<◌, ◌≤◌, min, nat_le, nat_lt, zero, suc, List, [], ◌∷◌, ◌++◌, length, map, filter, Bool, true, false, ◌&&◌, ◌==◌, if◌then◌else◌, Option, Some, None, Ok, Err, Contains, slice_get}
 use Rattle.std.specs.List.{flat_map, list_any}
 use Rattle.std.specs.Option.{option_map}
 use Rattle.ic_base.specs.declared.keys.ConnKey.{ConnKey}
@@ -12,8 +12,6 @@ use Rattle.ic_header.specs.declared.flags.Flags.TheVariants.{Rows, LastRows, Que
 use Rattle.ic_window.specs.State.{WindowState, fresh, grown, lost, sampled}
 use Rattle.ic_window.specs.Waiting.{wait_of}
 use Rattle.ic_window.specs.Window.{room_of}
-use Rattle.ic_law.specs.declared.history.HubAsk.{HubAsk}
-use Rattle.ic_law.specs.declared.history.HubAsk.TheVariants.{Begin, Put, Finish, Take, TakeFrom, Halt, Arrive, Tick, Clear, Leave}
 use Rattle.ic_law.specs.declared.history.HubReply.{HubReply}
 use Rattle.ic_law.specs.declared.history.HubReply.TheVariants.{Begun, Gave, Took, Came, Ticked, Cleared, Left, Memory}
 use Rattle.ic_law.specs.declared.history.Entry.{Entry}
@@ -21,7 +19,7 @@ use Rattle.ic_law.specs.Packets.{Packet, RowPacket, packet_of, key_of, row_datag
 use Rattle.ic_law.specs.History.{emits, rows_in, sent_upto, hears, run_heard, consumed_heard, stopped_of}
 use Rattle.ic_law.specs.Filling.{Sealed, sealed_of}
 use Rattle.ic_law.specs.Numbers.{words_in}
-use Rattle.ic_law.specs.Points.{Place, Every, IsHere}
+use Rattle.ic_law.specs.Points.{Place, Every, IsLive, IsHere}
 
 -- ---- the clock
 
@@ -317,10 +315,38 @@ abbrev pub spent_query : Settings → ℕ → Option Asked → Bool
 spent_query settings clock None = false
 spent_query settings clock (Some a) = nat_le a.due clock && (a.tries == settings.retries)
 
+-- the next tick
+abbrev pub next_clock : List Entry → ℕ
+next_clock before = min last_tick (ticks_of before + 1)
+
 -- nothing is given up at the next tick
 pub record NoneSpent (settings : Settings) (c : ConnKey) (before : List Entry) : Type 0 where
-  pub packets : spent_timers settings (min last_tick (ticks_of before + 1)) (timing_of c settings before) ≡ []
-  pub query : spent_query settings (min last_tick (ticks_of before + 1)) (timing_of c settings before).asked ≡ false
+  pub packets : spent_timers settings (next_clock before) (timing_of c settings before) ≡ []
+  pub query : spent_query settings (next_clock before) (timing_of c settings before).asked ≡ false
+
+-- ---- which of them a refused tick names
+
+-- the packets, and the status query, of an end that are given up at the next tick: their connection and number
+abbrev pub packets_spent : Settings → List Entry → ConnEnd → List (ConnKey × ℕ)
+packets_spent settings before end =
+    if end.sending then map (λ x. (end.key, x.seq)) (spent_timers settings (next_clock before) (timing_of end.key settings before)) else []
+
+abbrev pub query_spent : Settings → List Entry → ConnEnd → List (ConnKey × ℕ)
+query_spent settings before end =
+    if end.sending && spent_query settings (next_clock before) (timing_of end.key settings before).asked then (end.key, sent_upto end.key before) ∷ [] else []
+
+-- of a query: the packets of its connections in their order, and then the status queries
+abbrev pub spent_of : Settings → List Entry → List ConnEnd → List (ConnKey × ℕ)
+spent_of settings before ends = flat_map (packets_spent settings before) ends ++ flat_map (query_spent settings before) ends
+
+-- the first that is given up at the next tick, of the live queries by increasing number
+pub record IsFirstSpent (settings : Settings) (before : List Entry) (key : ConnKey) (seq : ℕ) : Type 0 where
+  pub query : ℕ
+  pub ends : List ConnEnd
+  pub live : IsLive query ends before
+  pub more : List (ConnKey × ℕ)
+  pub first : spent_of settings before ends ≡ (key, seq) ∷ more
+  pub least : (other : ℕ) (others : List ConnEnd) → IsLive other others before → other < query → spent_of settings before others ≡ []
 
 -- ---- the laws of a sending end
 
