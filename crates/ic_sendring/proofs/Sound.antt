@@ -53,13 +53,13 @@ module _ (depth packet sealed sent : ℕ) (slots : List Slot) (places : ℕ) (sp
       record {
         ring = ring_with s.seq sent (slots ++ s ∷ [])
             (map-append (λ (t : Slot). t.seq) slots (s ∷ []) ∙ ap (λ l. l ++ s.seq ∷ []) follow_of
-              ∙ ap (λ n. numbers_from (sealed + 1 - length slots) (length slots) ++ n ∷ []) (let at : s.seq ≡ (sealed + 1 - length slots) + length slots = omega (arith, next, low) in at)
-              ∙ sym (numbers_from-more (sealed + 1 - length slots) (length slots))
-              ∙ ap (λ n. numbers_from n (length slots + 1)) (let from : sealed + 1 - length slots ≡ s.seq + 1 - (length slots + 1) = omega (arith, next) in from)
-              ∙ ap (λ n. numbers_from (s.seq + 1 - n) n) (sym long))
+            ∙ ap (λ n. numbers_from (sealed + 1 - length slots) (length slots) ++ n ∷ []) (let at : s.seq ≡ (sealed + 1 - length slots) + length slots = omega (arith, next, low) in at)
+            ∙ sym (numbers_from-more (sealed + 1 - length slots) (length slots))
+            ∙ ap (λ n. numbers_from n (length slots + 1)) (let from : sealed + 1 - length slots ≡ s.seq + 1 - (length slots + 1) = omega (arith, next) in from)
+            ∙ ap (λ n. numbers_from (s.seq + 1 - n) n) (sym long))
             (omega (arith, long, low, next)) greatest (omega (arith, long, free))
             (subst (All (λ (k : Kept). length k.packet.payload ≤ room_of packet)) (sym (seen-push sent slots s sent_low))
-              (All-push (λ (k : Kept). length k.packet.payload ≤ room_of packet) (seen sent slots) (kept_of false s) sound.ring.fits short));
+            (All-push (λ (k : Kept). length k.packet.payload ≤ room_of packet) (seen sent slots) (kept_of false s) sound.ring.fits short));
         sent_within = omega (arith, long, sent_low);
         count = let count : length slots + length spare ≡ depth = sound.count in
             let less = ap length taken ∙ length-append left (buffer ∷ []) in
@@ -94,12 +94,12 @@ module _ (depth packet sealed sent : ℕ) (slots : List Slot) (places : ℕ) (sp
       let high = within_of.1 in
       let sent_low : sent ≤ length slots = sound.sent_within in
       let seen_is : seen sent' rest ≡ drop 1 (seen sent slots) =
-          ap (λ n. seen n rest) less ∙ ap (λ l. seen (sent - 1) (drop 1 l)) (sym are) ∙ seen-drop sent slots in
+      ap (λ n. seen n rest) less ∙ ap (λ l. seen (sent - 1) (drop 1 l)) (sym are) ∙ seen-drop sent slots in
       record {
         ring = ring_with sealed sent' rest
             (ap (λ l. drop 1 (seqs_of l)) (sym are) ∙ ap (drop 1) follow_of ∙ numbers_from-drop (sealed + 1 - length slots) (length slots)
-              ∙ ap (λ n. numbers_from n (length slots - 1)) (let from : sealed + 1 - length slots + 1 ≡ sealed + 1 - length rest = omega (arith, long, low) in from)
-              ∙ ap (numbers_from (sealed + 1 - length rest)) (let one_less : length slots - 1 ≡ length rest = omega (arith, long) in one_less))
+            ∙ ap (λ n. numbers_from n (length slots - 1)) (let from : sealed + 1 - length slots + 1 ≡ sealed + 1 - length rest = omega (arith, long, low) in from)
+            ∙ ap (numbers_from (sealed + 1 - length rest)) (let one_less : length slots - 1 ≡ length rest = omega (arith, long) in one_less))
             (omega (arith, long, low)) sound.ring.greatest (omega (arith, long, high))
             (subst (All (λ (k : Kept). length k.packet.payload ≤ room_of packet)) (sym seen_is) (All-drop (λ (k : Kept). length k.packet.payload ≤ room_of packet) 1 (seen sent slots) sound.ring.fits));
         sent_within = omega (arith, long, sent_low, less);

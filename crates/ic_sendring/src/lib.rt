@@ -16,3 +16,6 @@ mod slot;
 pub use fault::SealNo;
 pub use ring::SendRing;
 pub use sealed::Sealed;
+
+#[cfg(test)]
+mod tests;

@@ -13,11 +13,7 @@ pub(crate) struct Slot {
 }
 
 /// So many buffers, each with room for so many bytes.
-pub(crate) fn buffers(
-    alloc: Global,
-    count: usize,
-    room: usize,
-) -> Result<Vec<Vec<u8>>, AllocError>
+pub(crate) fn buffers(alloc: Global, count: usize, room: usize) -> Result<Vec<Vec<u8>>, AllocError>
     ensures count { IfOk result (λ v. length v.items ≡ count) }
     ensures places { IfOk result (λ v. count ≤ vec_capacity v) }
     ensures rooms { IfOk result (λ v. HaveRoom room v.items) }

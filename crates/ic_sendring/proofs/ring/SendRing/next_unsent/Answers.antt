@@ -9,7 +9,7 @@ pub returns-in-Some-clause-value : goal.returns-in-Some-clause-value
 returns-in-Some-clause-value c =
     let s = c.self.inside in
     let lent : record { seq = c.lend.result.seq; last = c.lend.result.last; payload = c.lend.result.payload.now } ≡ packet_of c.in-Some.slot.now =
-        let e = c.lend.ensures in let a = e.0 in let b = e.1 in let p = e.2 in cc in
+    let e = c.lend.ensures in let a = e.0 in let b = e.1 in let p = e.2 in cc in
     let there = next_is s.sent s.slots.items c.in-Some.slot.now (omega (arith, s.slots.ok.0, c.in-Some.ensures.variant.0 refl)) c.in-Some.ensures.lookup in
     ap Some lent ∙ sym there ∙ ap (λ (t : Ring). bare (next_of t)) c.self.view_is
 

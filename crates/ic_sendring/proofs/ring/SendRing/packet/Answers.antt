@@ -28,10 +28,10 @@ returns-clause-value c =
     let low = (within_of s.depth s.packet s.sealed s.sent s.slots.items _ s.spare.items _ c.self.invariant).0 in
     let from = s.sealed + 1 - length s.slots.items in
     let lent : record { seq = c.lend.result.seq; last = c.lend.result.last; payload = c.lend.result.payload.now } ≡ packet_of c.index-slot.result.now =
-        let a = c.lend.ensures.0 in let b = c.lend.ensures.1 in let p = c.lend.ensures.2 in cc in
+    let a = c.lend.ensures.0 in let b = c.lend.ensures.1 in let p = c.lend.ensures.2 in cc in
     let place : c.len-2.result - 1 - (s.sealed - c.args.seq) ≡ c.args.seq - from = omega (arith, c.if-behind-len.false, c.len.ensures, c.len-2.ensures, s.slots.ok.0, low, c.if-seq-self.false) in
     let slot : c.index-slot.result.now ≡ get_or s.slots.items (c.args.seq - from) c.index-slot.result.now = c.index-slot.ensures ∙ ap (λ i. get_or s.slots.items i c.index-slot.result.now) place in
     ap Some lent
     ∙ sym (kept_is from s.sent c.args.seq s.slots.items c.index-slot.result.now (follow_of s.depth s.packet s.sealed s.sent s.slots.items _ s.spare.items _ c.self.invariant)
-        (omega (arith, c.if-behind-len.false, c.len.ensures, s.slots.ok.0, c.if-seq-self.false)) (omega (arith, low, c.if-behind-len.false, c.len.ensures, s.slots.ok.0, c.if-seq-self.false)) slot)
+    (omega (arith, c.if-behind-len.false, c.len.ensures, s.slots.ok.0, c.if-seq-self.false)) (omega (arith, low, c.if-behind-len.false, c.len.ensures, s.slots.ok.0, c.if-seq-self.false)) slot)
     ∙ ap (λ (t : Ring). bare (kept_at c.args.seq t.kept)) c.self.view_is

@@ -17,5 +17,5 @@ returns c =
     record {
       next = subst (λ (t : Ring). (k : Kept) → next_of t ≡ Some k → ring_of s.depth s.packet s.sealed (s.sent + 1) s.slots.items ≡ record t { kept = with_sent k.packet.seq t.kept }) c.self.view_is
           (λ k found. ap (λ l. record { sealed = s.sealed; kept = l; depth = s.depth; packet = s.packet })
-              (sym (marked_next _ s.sent s.slots.items k (follow_of s.depth s.packet s.sealed s.sent s.slots.items _ s.spare.items _ c.self.invariant) found)));
+          (sym (marked_next _ s.sent s.slots.items k (follow_of s.depth s.packet s.sealed s.sent s.slots.items _ s.spare.items _ c.self.invariant) found)));
     }
