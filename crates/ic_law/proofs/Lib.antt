@@ -3,3 +3,5 @@ pub mod Readings
 pub mod Regrouping
 pub mod Following
 pub mod Making
+pub mod Timings
+pub mod Packing
