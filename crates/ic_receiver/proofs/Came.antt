@@ -276,8 +276,8 @@ asked settings s h d p x reads flags answers lawful stands =
     let m = moves_query c h d x (no_rows c d p reads flags) in
     stands_still settings s h e m
     (arrival settings s.end h d (handled x) lawful
-      (λ q one. absurd (let bad : [] ≡ q ∷ [] = sym (no_rows c d p reads flags) ∙ one in cc))
-      (λ other again is_query. let both : Some p ≡ Some other = sym reads ∙ again in let is : p ≡ other = cc in subst (λ (y : Read). AnswersQuery s.end h y.head.seq (handled x)) is answers)) stands
+    (λ q one. absurd (let bad : [] ≡ q ∷ [] = sym (no_rows c d p reads flags) ∙ one in cc))
+    (λ other again is_query. let both : Some p ≡ Some other = sym reads ∙ again in let is : p ≡ other = cc in subst (λ (y : Read). AnswersQuery s.end h y.head.seq (handled x)) is answers)) stands
 
 told : (settings : Settings) (s : Receiving) (h : List Entry) (d : Datagram) (p : Read) (a : Option Datagram) → packet_of d ≡ Some p → p.head.flags ≡ Query
     → HearsQuery s p.head.seq a → Stands settings s h → Stands settings s (h ++ coming d (came_of a) ∷ [])
@@ -297,7 +297,7 @@ told settings s h d p a reads flags (QueryTold x old r runs one answer is) stand
     let count : old.consumed ≡ consumed_of c h = mirrors.consumed in
     subst (λ o. Stands settings s (h ++ coming d (came_of o) ∷ [])) (sym is)
     (asked settings s h d p x reads flags (LawTold r mirrors.running run (ap handled (answer.is ∙ ap (λ n. answer_datagram s.end Ack r n []) count)))
-      (lawful_ack s.end r old.consumed x now e answer refl (run_had_still c h now [] [] r m run) (count ∙ consumed_same c h now [] m)) stands)
+    (lawful_ack s.end r old.consumed x now e answer refl (run_had_still c h now [] [] r m run) (count ∙ consumed_same c h now [] m)) stands)
 
 pub stands_told : (settings : Settings) (s : Receiving) (seq : ℕ) (a : Option Datagram) (h : List Entry) (e : Entry) → HearsQuery s seq a → IsQuerying s.end.key seq a e → Stands settings s h
     → Stands settings s (h ++ e ∷ [])

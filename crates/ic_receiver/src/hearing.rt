@@ -31,7 +31,14 @@ fn tell_stored(
         return answer(alloc, end, Flags::Ack, ring.run_end(), ring.consumed());
     }
     let missing = ring.missing(alloc)?;
-    answer_listing(alloc, end, Flags::Disorder, seq, ring.greatest(), missing.as_slice())
+    answer_listing(
+        alloc,
+        end,
+        Flags::Disorder,
+        seq,
+        ring.greatest(),
+        missing.as_slice(),
+    )
 }
 
 /// Keeps a packet of rows, or not, and says what the sender is told. A packet whose answer finds no memory isn't kept.
@@ -55,7 +62,7 @@ pub(crate) fn hear(
         Store::Stored => match tell_stored(alloc, end, ring, run, seq) {
             Ok(told) => Ok(Some(told)),
             Err(e) => {
-                // ring.take_back(seq);
+                ring.take_back(seq);
                 Err(e)
             }
         },

@@ -48,11 +48,7 @@ impl Model for Receiver {
 impl Receiver {
     /// The receiving end of a connection of which nothing came. Takes the room for all packets that it may keep:
     /// `receive_depth` times `packet` bytes, which aren't touched before a packet is stored in them.
-    pub fn new(
-        alloc: Global,
-        end: ConnEnd,
-        settings: &Settings,
-    ) -> Result<Receiver, AllocError>
+    pub fn new(alloc: Global, end: ConnEnd, settings: &Settings) -> Result<Receiver, AllocError>
         requires receiving { end.sending ≡ false }
         requires checked { AreChecked settings.now }
         ensures begun { IfOk result (λ r. r ≡ begun end settings.now) }
@@ -114,7 +110,13 @@ impl Receiver {
     {
         match &self.ring {
             None => Ok(Some(answer(alloc, &self.end, Flags::Stop, seq, 0)?)),
-            Some(ring) => Ok(Some(answer(alloc, &self.end, Flags::Ack, ring.run_end(), ring.consumed())?)),
+            Some(ring) => Ok(Some(answer(
+                alloc,
+                &self.end,
+                Flags::Ack,
+                ring.run_end(),
+                ring.consumed(),
+            )?)),
         }
     }
 

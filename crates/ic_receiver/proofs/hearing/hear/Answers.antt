@@ -1,8 +1,9 @@
-use Rattle.std.proofs.Common.{◌≡◌, ◌+◌, ◌<◌, refl, sym, subst}
+use Rattle.std.proofs.Common.{◌≡◌, ◌+◌, ◌<◌, refl, ap, sym, ◌∙◌, subst}
 use Rattle.std.specs.List.{Contains}
 use Rattle.ic_recvring.specs.Numbers.{IsRunEnd}
-use Rattle.ic_recvring.specs.Ring.{Ring, Packet, stored_of}
-use Rattle.ic_recvring.proofs.Stored.{stored_there}
+use Rattle.ic_recvring.specs.Ring.{Ring, Packet, numbers, stored_of, placed, without}
+use Rattle.ic_recvring.proofs.Stored.{seq_in, placed_there, stored_there}
+use Rattle.ic_recvring.proofs.Back.{placed_back}
 use Rattle.ic_receiver.specs.Receiving.{TellsStored, Again, Far, Kept}
 use Rattle.ic_receiver.proofs.Numbers.{run_behind}
 use Rattle.ic_receiver.proofs.hearing.hear.Goals as goal
@@ -34,5 +35,15 @@ returns-in-Ok-clause-hears c =
     let w = c.in-Stored.ensures.stores c.run_end-run.result c.run_end-run.ensures.value in
     Kept c.in-Ok.told c.run_end-run.result c.run_end-run.ensures.value w.0 w.1 (subst (λ (t : Ring). TellsStored c.args.end.now t c.run_end-run.result c.args.seq c.in-Ok.told) w.2 c.in-Ok.ensures) refl w.2
 
+pub take_back-requires : goal.take_back-requires
+take_back-requires c =
+    let q : Packet = record { seq = c.args.seq; last = c.args.last; payload = c.args.payload.now } in
+    let w = c.in-Stored.ensures.stores c.run_end-run.result c.run_end-run.ensures.value in
+    subst (λ (t : Ring). Contains (numbers t.kept) c.args.seq) (sym w.2) (seq_in (placed q c.args.ring.now.kept) q (placed_there q c.args.ring.now.kept))
+
 pub returns-in-Err-clause-memory : goal.returns-in-Err-clause-memory
-returns-in-Err-clause-memory c = ?
+returns-in-Err-clause-memory c =
+    let s = c.args.ring.now in
+    let q : Packet = record { seq = c.args.seq; last = c.args.last; payload = c.args.payload.now } in
+    let w = c.in-Stored.ensures.stores c.run_end-run.result c.run_end-run.ensures.value in
+    c.take_back.ensures ∙ ap (without c.args.seq) w.2 ∙ ap (λ l. record s { kept = l }) (placed_back q s.consumed s.kept c.run_end-run.ensures.ring.ahead w.0.1)

@@ -11,4 +11,4 @@ pub returns-in_ok-answer-in-Some : goal.returns-in_ok-answer-in-Some
 returns-in_ok-answer-in-Some c =
     subst (λ (s : Receiving). HearsQuery s c.args.seq (Some c.in_ok-answer-in-Some.field-0)) c.self.view_is
     (QueryTold c.in_ok-answer-in-Some.field-0 c.in-Some.ring c.run_end.result c.in-Some.is c.run_end.ensures.value
-      (subst (λ n. IsAnswer c.self.inside.end Ack c.run_end.result n [] c.in_ok-answer-in-Some.field-0) c.consumed.ensures.value c.in_ok-answer-in-Some.ensures) refl)
+    (subst (λ n. IsAnswer c.self.inside.end Ack c.run_end.result n [] c.in_ok-answer-in-Some.field-0) c.consumed.ensures.value c.in_ok-answer-in-Some.ensures) refl)
