@@ -1,16 +1,15 @@
 -- A receiving connection stands for what came and was answered so.
-use Rattle.std.proofs.Common.{◌≡◌, ℕ, ◌+◌, ◌-◌, ◌<◌, ◌≤◌, List, [], ◌∷◌, ◌++◌, length, map, Bool, true, false, cond, ◌&&◌, ◌||◌, Option, Some, None, refl, ap, sym, ◌∙◌, subst, arith, inl, inr, ◌⊎◌}
-use Rattle.std.specs.List.{Contains, filter, flat_map, list_any}
+use Rattle.std.proofs.Common.{◌≡◌, ℕ, ◌+◌, ◌-◌, ◌<◌, ◌≤◌, List, [], ◌∷◌, ◌++◌, length, Bool, true, false, cond, ◌&&◌, Option, Some, None, refl, ap, sym, ◌∙◌, subst, arith, inl, inr, ◌⊎◌}
+use Rattle.std.specs.List.{Contains, filter, list_any}
 use Rattle.std.proofs.lemmas.List.Elements.{Contains-append_cases, Contains-append_left, Contains-append_right}
 use Rattle.ic_base.specs.declared.keys.ConnKey.{ConnKey}
 use Rattle.ic_base.specs.declared.keys.ConnEnd.{ConnEnd}
 use Rattle.ic_base.specs.declared.settings.Settings.{Settings}
 use Rattle.ic_base.specs.declared.datagram.Datagram.{Datagram}
 use Rattle.ic_base.specs.Keys.{key_eq}
-use Rattle.ic_header.specs.declared.flags.Flags.{Flags}
 use Rattle.ic_header.specs.declared.flags.Flags.TheVariants.{Query, Ack, Stop, Disorder, Duplicate}
 use Rattle.ic_recvring.specs.Numbers as ring
-use Rattle.ic_recvring.specs.Ring.{Ring, Packet, numbers, stored_of, IsRepeated, IsBeyond, HasRoom, room_of}
+use Rattle.ic_recvring.specs.Ring.{Ring, Packet, numbers, stored_of, IsRepeated, IsBeyond, HasRoom}
 use Rattle.ic_recvring.proofs.Among.{Contains-head, numbers_bound}
 use Rattle.ic_recvring.proofs.Runs.{consumed_in_run}
 use Rattle.ic_recvring.proofs.Stored.{placed_from, stored_there, stored_keeps, stored_from}
@@ -21,13 +20,13 @@ use Rattle.ic_law.specs.declared.history.Arrived.TheVariants.{Dropped}
 use Rattle.ic_law.specs.declared.history.DropCause.TheVariants.{Beyond}
 use Rattle.ic_law.specs.declared.history.Entry.{Entry}
 use Rattle.ic_law.specs.Packets.{Packet as Read, RowPacket, packet_of, key_of, is_rows, is_last, answer_datagram}
-use Rattle.ic_law.specs.History.{rows_read, rows_in, number_of, tells_stored, stored_of as stored_in, stored_numbers_of, whole_of, IsHalted, datagram_tells_stored}
-use Rattle.ic_law.specs.Receiving.{IsRunEnd, consumed_of, handled, missing, listing, AnswersRows, AnswersQuery, Receives, Stopped as RowsStopped, Again as RowsAgain, Far as RowsFar, Next as RowsNext, Gap as RowsGap, QueryStopped as LawStopped, QueryTold as LawTold}
-use Rattle.ic_law.proofs.Lists.{Contains-none, Contains-one}
+use Rattle.ic_law.specs.History.{rows_read, rows_in, stored_of as stored_in, stored_numbers_of, whole_of, IsHalted, datagram_tells_stored}
+use Rattle.ic_law.specs.Receiving.{IsRunEnd, consumed_of, handled, listing, AnswersRows, AnswersQuery, Receives, Stopped as RowsStopped, Again as RowsAgain, Far as RowsFar, Next as RowsNext, Gap as RowsGap, QueryStopped as LawStopped, QueryTold as LawTold}
+use Rattle.ic_law.proofs.Lists.{Contains-one}
 use Rattle.ic_law.proofs.Readings.{every_push, rows_in-reads}
 use Rattle.ic_receiver.specs.Receiving.{Receiving, IsAnswer, storing, TellsStored, Next, Gap, HearsRows, Again, Far, Kept, Hears, Stopped, Running, HearsQuery, QueryStopped, QueryTold}
 use Rattle.ic_receiver.specs.Entries.{row_of, came_of, IsHearing, IsQuerying}
-use Rattle.ic_receiver.specs.Standing.{Mirrors, Reflects, Stands}
+use Rattle.ic_receiver.specs.Standing.{Mirrors, Stands}
 use Rattle.ic_receiver.proofs.Numbers.{Same, same_run_end, same_greatest, same_missing, missing_first, run_behind}
 use Rattle.ic_receiver.proofs.Shown.{answer_tells, Lawful, lawful_none, lawful_stop, lawful_ack, lawful_duplicate, lawful_disorder}
 use Rattle.ic_receiver.proofs.Moving.{halted_push, halt_asked, Moves, moves_by, numbers_now, whole_same, consumed_same, run_had, run_had_still, mirrors_same, stands_still, entry_is}

@@ -1,20 +1,20 @@
 -- What one more entry does to what a receiving connection reflects.
-use Rattle.std.proofs.Common.{◌≡◌, ℕ, ◌+◌, ◌<◌, ◌≤◌, List, [], ◌∷◌, ◌++◌, length, map, Bool, true, false, cond, ◌||◌, Option, Some, None, refl, ap, sym, ◌∙◌, subst, arith, inl, inr, ◌⊎◌, append_assoc, append-nil}
+use Rattle.std.proofs.Common.{◌≡◌, ℕ, ◌≤◌, List, [], ◌∷◌, ◌++◌, length, map, Bool, true, false, cond, ◌||◌, refl, ap, sym, ◌∙◌, subst, inl, inr, ◌⊎◌, append_assoc, append-nil}
 use Rattle.std.specs.List.{Contains, flat_map, list_any}
-use Rattle.std.proofs.lemmas.List.Elements.{Contains-append_cases, Contains-append_left, Contains-append_right}
+use Rattle.std.proofs.lemmas.List.Elements.{Contains-append_left}
 use Rattle.ic_base.specs.declared.keys.ConnKey.{ConnKey}
 use Rattle.ic_base.specs.declared.keys.ConnEnd.{ConnEnd}
 use Rattle.ic_base.specs.declared.settings.Settings.{Settings}
 use Rattle.ic_base.specs.declared.datagram.Datagram.{Datagram}
 use Rattle.ic_base.specs.declared.datagram.Parcel.{Parcel}
-use Rattle.ic_recvring.specs.Ring.{Ring, Packet, stored_of}
+use Rattle.ic_recvring.specs.Ring.{Ring}
 use Rattle.ic_law.specs.declared.history.HubAsk.{HubAsk}
 use Rattle.ic_law.specs.declared.history.HubAsk.TheVariants.{Begin, Put, Finish, Take, TakeFrom, Halt, Arrive, Tick, Clear, Leave}
 use Rattle.ic_law.specs.declared.history.HubReply.{HubReply}
 use Rattle.ic_law.specs.declared.history.Entry.{Entry}
 use Rattle.ic_law.specs.Packets.{RowPacket}
 use Rattle.ic_law.specs.History.{rows_in, number_of, arrives, arrived_of, rows_arrived_of, takes, parcels_of, is_last_parcel, whole_of, halts, IsHaltAsked, IsHalted, stores, stored_by, stored_of as stored_in, stored_numbers_of, datagrams_of, datagram_tells_stored}
-use Rattle.ic_law.specs.Points.{RunHad, Every}
+use Rattle.ic_law.specs.Points.{RunHad}
 use Rattle.ic_law.specs.Receiving.{IsRunEnd, consumed_of, Receives}
 use Rattle.ic_law.proofs.Lists.{cut_at, Contains-none, Contains-middle, Contains-flat_map, flat_map-Contains, map-append, map-Contains, list_any-append}
 use Rattle.ic_law.proofs.Readings.{every_push, parcels_of-push, stored_of-push}

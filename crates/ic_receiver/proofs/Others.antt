@@ -1,6 +1,6 @@
 -- A receiving connection stands for its halts, for what doesn't concern it, and as it begins.
-use Rattle.std.proofs.Common.{◌≡◌, ℕ, ◌≤◌, List, [], ◌∷◌, ◌++◌, Bool, true, false, ◌&&◌, ◌||◌, Option, Some, None, Ok, refl, ap, sym, ◌∙◌, subst, inl, inr, append-nil}
-use Rattle.std.specs.List.{Contains, list_any}
+use Rattle.std.proofs.Common.{◌≡◌, ◌≤◌, List, [], ◌∷◌, ◌++◌, Bool, true, false, ◌&&◌, ◌||◌, Option, Some, None, Ok, refl, ap, sym, ◌∙◌, subst, inl, inr, append-nil}
+use Rattle.std.specs.List.{list_any}
 use Rattle.ic_base.specs.declared.keys.ConnKey.{ConnKey}
 use Rattle.ic_base.specs.declared.keys.ConnEnd.{ConnEnd}
 use Rattle.ic_base.specs.declared.settings.Settings.{Settings}
@@ -10,10 +10,9 @@ use Rattle.ic_base.proofs.SameKeys.{key_eq-same}
 use Rattle.ic_recvring.specs.Ring.{Ring, empty}
 use Rattle.ic_header.specs.declared.flags.Flags.TheVariants.{Stop}
 use Rattle.ic_law.specs.declared.history.HubAsk.TheVariants.{Halt}
-use Rattle.ic_law.specs.declared.history.HubReply.TheVariants.{Gave, Took}
+use Rattle.ic_law.specs.declared.history.HubReply.TheVariants.{Gave}
 use Rattle.ic_law.specs.declared.history.Entry.{Entry}
-use Rattle.ic_law.specs.History.{takes, parcel_for, parcels_of, whole_of, is_last_parcel, halts, IsHaltAsked, IsHalted, stored_of as stored_in}
-use Rattle.ic_law.specs.Points.{IsEnded}
+use Rattle.ic_law.specs.History.{takes, parcel_for, parcels_of, is_last_parcel, halts, IsHaltAsked}
 use Rattle.ic_law.specs.Receiving.{IsTaking, AnswersHalt, HaltedNow, HaltedAgain, Receives}
 use Rattle.ic_law.proofs.Lists.{Contains-none, list_any-push}
 use Rattle.ic_law.proofs.Readings.{every_none, every_push, fold_every, parcels_of-push, stored_of-push}
@@ -21,7 +20,7 @@ use Rattle.ic_receiver.specs.Receiving.{Receiving, begun, IsAnswer, IsOver, Halt
 use Rattle.ic_receiver.specs.Entries.{list_of, IsHalting, IsSilent}
 use Rattle.ic_receiver.specs.Standing.{Mirrors, Stands, IsUntouched}
 use Rattle.ic_receiver.proofs.Shown.{Lawful, lawful_none, lawful_stop}
-use Rattle.ic_receiver.proofs.Moving.{halted_push, halted_pull, Moves, moves_by, whole_same, stands_still, entry_is}
+use Rattle.ic_receiver.proofs.Moving.{halted_push, halted_pull, Moves, moves_by, stands_still, entry_is}
 use Rattle.ic_receiver.proofs.Taken.{adds, not_ended, ended_there}
 
 -- ---- halts

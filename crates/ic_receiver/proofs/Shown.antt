@@ -1,5 +1,5 @@
 -- What an answer reads as where it is emitted, and what it then tells of its connection.
-use Rattle.std.proofs.Common.{◌≡◌, ℕ, ◌+◌, ◌≤◌, List, [], ◌∷◌, ◌++◌, length, Bool, true, false, ◌||◌, Some, refl, ap, sym, ◌∙◌, subst, inl, inr, ◌⊎◌}
+use Rattle.std.proofs.Common.{◌≡◌, ℕ, ◌+◌, List, [], ◌∷◌, ◌++◌, length, false, ◌||◌, Some, ap, sym, ◌∙◌, subst, inl}
 use Rattle.std.specs.List.{Contains, list_any}
 use Rattle.std.specs.Int.{w32, to_be_bytes}
 use Rattle.ic_base.specs.declared.keys.ConnKey.{ConnKey}

@@ -1,5 +1,5 @@
 -- A receiving connection stands for what was taken of it, and for takes that were refused.
-use Rattle.std.proofs.Common.{◌≡◌, ℕ, zero, suc, ◌+◌, ◌<◌, ◌≤◌, List, [], ◌∷◌, ◌++◌, length, map, drop, Bool, true, false, cond, ◌&&◌, ◌||◌, ◌==◌, Option, Some, None, Result, Ok, Err, refl, ap, sym, ◌∙◌, subst, arith, inl, inr, ◌⊎◌, append-nil, length-append}
+use Rattle.std.proofs.Common.{◌≡◌, ℕ, ◌+◌, List, [], ◌∷◌, ◌++◌, length, map, drop, Bool, true, false, cond, ◌&&◌, ◌||◌, ◌==◌, Some, None, Ok, Err, refl, ap, sym, ◌∙◌, subst, arith, inl, inr, append-nil, length-append}
 use Rattle.std.specs.List.{Contains, find}
 use Rattle.std.specs.Ordering.{int_eq}
 use Rattle.std.proofs.lemmas.Bool.Decides.{Decides-eqb, Decides-int_eq, Decides-and, eqb_tells}
@@ -13,18 +13,17 @@ use Rattle.ic_base.specs.Keys.{key_eq}
 use Rattle.ic_base.proofs.SameKeys.{key_eq-same}
 use Rattle.ic_header.specs.declared.flags.Flags.TheVariants.{Ack}
 use Rattle.ic_recvring.specs.Numbers as ring
-use Rattle.ic_recvring.specs.Ring.{Ring, Packet, numbers, stored_of, front_of, after_front}
+use Rattle.ic_recvring.specs.Ring.{Ring, Packet, numbers, stored_of, after_front}
 use Rattle.ic_recvring.proofs.Among.{Contains-tail, Contains-head, head_or_tail, numbers_bound}
 use Rattle.ic_recvring.proofs.Stored.{packet_with}
 use Rattle.ic_law.specs.declared.history.HubAsk.{HubAsk}
 use Rattle.ic_law.specs.declared.history.HubAsk.TheVariants.{Begin, Put, Finish, Take, TakeFrom, Halt, Arrive, Tick, Clear, Leave}
-use Rattle.ic_law.specs.declared.history.HubReply.{HubReply}
 use Rattle.ic_law.specs.declared.history.HubReply.TheVariants.{Took}
 use Rattle.ic_law.specs.declared.history.HubNo.{HubNo}
 use Rattle.ic_law.specs.declared.history.HubNo.TheVariants.{Empty, Ended}
 use Rattle.ic_law.specs.declared.history.Entry.{Entry}
 use Rattle.ic_law.specs.Packets.{RowPacket, answer_datagram}
-use Rattle.ic_law.specs.History.{rows_arrived_of, number_of, takes, parcel_for, parcels_of, whole_of, is_last_parcel, halts, is_halt, IsHalted, stores, stored_by, stored_of as stored_in, stored_numbers_of}
+use Rattle.ic_law.specs.History.{rows_arrived_of, number_of, takes, parcel_for, parcels_of, whole_of, is_halt, stored_by, stored_of as stored_in, stored_numbers_of}
 use Rattle.ic_law.specs.Points.{IsEnded}
 use Rattle.ic_law.specs.Receiving.{IsRunEnd, consumed_of, IsNext, IsTaken, IsTaking, TakesFrom, AnswersTake, Over, None as NothingNext, Taken, Receives}
 use Rattle.ic_law.proofs.Lists.{Contains-none, Contains-map}
@@ -33,7 +32,7 @@ use Rattle.ic_receiver.specs.Receiving.{Receiving, HandsFront, HandsOver, IsOver
 use Rattle.ic_receiver.specs.Entries.{row_of, IsRefusing}
 use Rattle.ic_receiver.specs.Standing.{Mirrors, Stands}
 use Rattle.ic_receiver.proofs.Numbers.{same_run_end}
-use Rattle.ic_receiver.proofs.Shown.{Lawful, lawful_none, lawful_ack}
+use Rattle.ic_receiver.proofs.Shown.{lawful_none, lawful_ack}
 use Rattle.ic_receiver.proofs.Moving.{Moves, moves_by, whole_now, stored_arrived, run_had_still, stands_still, entry_is}
 use Rattle.ic_receiver.proofs.Came.{same_numbers}
 

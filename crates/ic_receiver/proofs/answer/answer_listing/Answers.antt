@@ -1,4 +1,4 @@
-use Rattle.std.proofs.Common.{◌≡◌, [], ◌++◌, ap, ◌∙◌}
+use Rattle.std.proofs.Common.{◌≡◌, ◌++◌, ap, ◌∙◌}
 use Rattle.ic_law.specs.Receiving.{listing}
 use Rattle.ic_receiver.proofs.Made.{answer_made}
 use Rattle.ic_receiver.proofs.answer.answer_listing.Goals as goal

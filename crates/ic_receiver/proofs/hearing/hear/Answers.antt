@@ -1,4 +1,4 @@
-use Rattle.std.proofs.Common.{◌≡◌, ◌+◌, ◌<◌, refl, ap, sym, ◌∙◌, subst}
+use Rattle.std.proofs.Common.{refl, ap, sym, ◌∙◌, subst}
 use Rattle.std.specs.List.{Contains}
 use Rattle.ic_recvring.specs.Numbers.{IsRunEnd}
 use Rattle.ic_recvring.specs.Ring.{Ring, Packet, numbers, stored_of, placed, without}

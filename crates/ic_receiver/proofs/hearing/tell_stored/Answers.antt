@@ -1,9 +1,9 @@
-use Rattle.std.proofs.Common.{◌≡◌, ◌+◌, ◌-◌, ◌<◌, ◌≤◌, [], length, ap, ◌∙◌, sym, subst, arith}
-use Rattle.ic_recvring.specs.Numbers.{IsRunEnd, missing}
+use Rattle.std.proofs.Common.{◌≡◌, ◌+◌, ◌<◌, [], length, ap, ◌∙◌, subst, arith}
+use Rattle.ic_recvring.specs.Numbers.{missing}
 use Rattle.ic_recvring.specs.Ring.{stored_of}
 use Rattle.ic_header.specs.declared.flags.Flags.TheVariants.{Ack, Disorder}
 use Rattle.ic_law.specs.Receiving.{listing}
-use Rattle.ic_receiver.specs.Receiving.{IsAnswer, TellsStored, Next, Gap}
+use Rattle.ic_receiver.specs.Receiving.{IsAnswer, Next, Gap}
 use Rattle.ic_receiver.proofs.Numbers.{missing_first, few_missing, greatest_near}
 use Rattle.ic_receiver.proofs.Made.{if_ok, listing_allowed}
 use Rattle.ic_receiver.proofs.hearing.tell_stored.Goals as goal

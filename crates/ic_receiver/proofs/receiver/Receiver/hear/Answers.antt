@@ -1,8 +1,8 @@
-use Rattle.std.proofs.Common.{◌≡◌, Some, ap, sym, ◌∙◌, subst}
+use Rattle.std.proofs.Common.{ap, subst}
 use Rattle.std.specs.Prelude.{IfOk}
-use Rattle.ic_recvring.specs.Ring.{Packet, Ring}
+use Rattle.ic_recvring.specs.Ring.{Packet}
 use Rattle.ic_receiver.specs.declared.receiver.Receiver.TheInside.{Inside}
-use Rattle.ic_receiver.specs.Receiving.{Receiving, Hears, HearsRows}
+use Rattle.ic_receiver.specs.Receiving.{Receiving, Hears}
 use Rattle.ic_receiver.proofs.Made.{stopped_made, running_made}
 use Rattle.ic_receiver.proofs.receiver.Receiver.hear.Goals as goal
 use Rattle.ic_receiver.proofs.receiver.Receiver.hear.Goals.{in-None+in_ok-answer-in-None, in-Some}

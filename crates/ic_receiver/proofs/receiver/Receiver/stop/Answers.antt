@@ -1,4 +1,4 @@
-use Rattle.std.proofs.Common.{◌≡◌, refl, Some, None, ap, sym, ◌∙◌, subst}
+use Rattle.std.proofs.Common.{refl, Some, None, subst}
 use Rattle.ic_receiver.specs.Receiving.{Receiving, Halts, HaltsNow}
 use Rattle.ic_receiver.proofs.Made.{some_ring}
 use Rattle.ic_receiver.proofs.receiver.Receiver.stop.Goals as goal
