@@ -1,5 +1,5 @@
 mod Numbers
-mod Shown
+pub mod Shown
 mod Moving
 mod Came
 mod Taken

@@ -1,5 +1,5 @@
 -- A receiving connection stands for its halts, for what doesn't concern it, and as it begins.
-use Rattle.std.proofs.Common.{◌≡◌, ◌≤◌, List, [], ◌∷◌, ◌++◌, Bool, true, false, ◌&&◌, ◌||◌, Option, Some, None, Ok, refl, ap, sym, ◌∙◌, subst, inl, inr, append-nil}
+use Rattle.std.proofs.Common.{◌≡◌, ◌≤◌, List, [], ◌∷◌, ◌++◌, Bool, true, false, cond, ◌==◌, ◌&&◌, ◌||◌, Option, Some, None, Ok, refl, ap, sym, ◌∙◌, subst, inl, inr, append-nil}
 use Rattle.std.specs.List.{list_any}
 use Rattle.ic_base.specs.declared.keys.ConnKey.{ConnKey}
 use Rattle.ic_base.specs.declared.keys.ConnEnd.{ConnEnd}
@@ -7,19 +7,21 @@ use Rattle.ic_base.specs.declared.settings.Settings.{Settings}
 use Rattle.ic_base.specs.declared.datagram.Datagram.{Datagram}
 use Rattle.ic_base.specs.declared.datagram.Parcel.{Parcel}
 use Rattle.ic_base.proofs.SameKeys.{key_eq-same}
+use Rattle.ic_base.specs.Keys.{key_eq}
 use Rattle.ic_recvring.specs.Ring.{Ring, empty}
-use Rattle.ic_header.specs.declared.flags.Flags.TheVariants.{Stop}
-use Rattle.ic_law.specs.declared.history.HubAsk.TheVariants.{Halt}
-use Rattle.ic_law.specs.declared.history.HubReply.TheVariants.{Gave}
+use Rattle.ic_header.specs.declared.flags.Flags.TheVariants.{Ack, Stop, Disorder, Duplicate}
+use Rattle.ic_law.specs.declared.history.HubAsk.{HubAsk}
+use Rattle.ic_law.specs.declared.history.HubAsk.TheVariants.{Begin, Put, Finish, Take, TakeFrom, Halt, Arrive, Tick, Clear, Leave}
+use Rattle.ic_law.specs.declared.history.HubReply.TheVariants.{Gave, Memory}
 use Rattle.ic_law.specs.declared.history.Entry.{Entry}
-use Rattle.ic_law.specs.History.{takes, parcel_for, parcels_of, is_last_parcel, halts, IsHaltAsked}
+use Rattle.ic_law.specs.History.{takes, parcel_for, parcels_of, is_last_parcel, halts, is_halt, IsHaltAsked, stored_by}
 use Rattle.ic_law.specs.Receiving.{IsTaking, AnswersHalt, HaltedNow, HaltedAgain, Receives}
 use Rattle.ic_law.proofs.Lists.{Contains-none, list_any-push}
 use Rattle.ic_law.proofs.Readings.{every_none, every_push, fold_every, parcels_of-push, stored_of-push}
 use Rattle.ic_receiver.specs.Receiving.{Receiving, begun, IsAnswer, IsOver, Halts, HaltsAgain, HaltsNow}
 use Rattle.ic_receiver.specs.Entries.{list_of, IsHalting, IsSilent}
 use Rattle.ic_receiver.specs.Standing.{Mirrors, Stands, IsUntouched}
-use Rattle.ic_receiver.proofs.Shown.{Lawful, lawful_none, lawful_stop}
+use Rattle.ic_receiver.proofs.Shown.{shown_none, Lawful, lawful_none, lawful_stop}
 use Rattle.ic_receiver.proofs.Moving.{halted_push, halted_pull, Moves, moves_by, stands_still, entry_is}
 use Rattle.ic_receiver.proofs.Taken.{adds, not_ended, ended_there}
 
@@ -122,6 +124,72 @@ stands_silent settings s h e silent stands =
         let one : takes s.end.key e ≡ p ∷ [] = ap (parcel_for s.end.key e.ask) w.reply ∙ (adds s.end.key e.ask p ds w.ask).took in
         let bad : [] ≡ p ∷ [] = sym silent.takes_none ∙ one in
         cc
+
+-- an ask that found no memory
+silent_memory : (end : ConnEnd) (h : List Entry) (ask : HubAsk) → IsSilent end h (record { ask = ask; reply = Memory })
+silent_memory end h ask =
+    let e : Entry = record { ask = ask; reply = Memory } in
+    let lawful = lawful_none end.key (h ++ e ∷ []) e refl in
+    record {
+      takes_none = takes_none ask;
+      stores_none = stores_none ask;
+      halts_none = halts_none ask;
+      ack = λ p w. shown_none e end.key Ack p refl w;
+      duplicate = λ p w. shown_none e end.key Duplicate p refl w;
+      disorder = λ p w. shown_none e end.key Disorder p refl w;
+      stop = lawful.stopped;
+      rows = λ here d q asked directed reads. refl;
+      query = λ here d p asked directed reads key flags. refl;
+      take_from = λ here asked. refl;
+      halt = λ here asked. refl;
+    }
+  where
+    nothing : (b : Bool) (l : List Parcel) → l ≡ [] → cond b l [] ≡ []
+    nothing true l e = e
+    nothing false l e = refl
+
+    and_false : (b : Bool) → (b && false) ≡ false
+    and_false true = refl
+    and_false false = refl
+
+    takes_none : (x : HubAsk) → parcel_for end.key x Memory ≡ []
+    takes_none (Begin query ends) = refl
+    takes_none (Put key chunk) = refl
+    takes_none (Finish key) = refl
+    takes_none (Take query motion) = nothing ((query == end.key.query) && (motion == end.key.motion)) [] refl
+    takes_none (TakeFrom key) = nothing (key_eq key end.key) [] refl
+    takes_none (Halt key) = refl
+    takes_none (Arrive d) = refl
+    takes_none Tick = refl
+    takes_none (Clear query) = refl
+    takes_none (Leave query) = refl
+
+    stores_none : (x : HubAsk) → stored_by end.key x Memory ≡ []
+    stores_none (Begin query ends) = refl
+    stores_none (Put key chunk) = refl
+    stores_none (Finish key) = refl
+    stores_none (Take query motion) = refl
+    stores_none (TakeFrom key) = refl
+    stores_none (Halt key) = refl
+    stores_none (Arrive d) = refl
+    stores_none Tick = refl
+    stores_none (Clear query) = refl
+    stores_none (Leave query) = refl
+
+    halts_none : (x : HubAsk) → is_halt end.key x Memory ≡ false
+    halts_none (Begin query ends) = refl
+    halts_none (Put key chunk) = refl
+    halts_none (Finish key) = refl
+    halts_none (Take query motion) = refl
+    halts_none (TakeFrom key) = refl
+    halts_none (Halt key) = and_false (key_eq key end.key)
+    halts_none (Arrive d) = refl
+    halts_none Tick = refl
+    halts_none (Clear query) = refl
+    halts_none (Leave query) = refl
+
+pub stands_memory : (settings : Settings) (s : Receiving) (h : List Entry) (ask : HubAsk) → Stands settings s h → Stands settings s (h ++ record { ask = ask; reply = Memory } ∷ [])
+stands_memory settings s h ask stands = stands_silent settings s h (record { ask = ask; reply = Memory }) (silent_memory s.end h ask) stands
 
 -- ---- beginning
 

@@ -51,7 +51,7 @@ shown end flags seq extra body d e a one c f p w =
       body_is = ap (λ (x : Packet). x.body) is;
     }
 
-shown_none : (e : Entry) (c : ConnKey) (f : Flags) (p : Packet) → emits e ≡ [] → Emits e c f p → ⊥
+pub shown_none : (e : Entry) (c : ConnKey) (f : Flags) (p : Packet) → emits e ≡ [] → Emits e c f p → ⊥
 shown_none e c f p none w = Contains-none w.datagram (subst (λ l. Contains l w.datagram) none w.stands)
 
 -- ---- what is told

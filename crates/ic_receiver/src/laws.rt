@@ -1,6 +1,8 @@
 // What is known of each receiving connection, above this crate.
 ghost use Rattle.std.specs.Prelude.{List, [], ◌∷◌, ◌++◌};
 ghost use Rattle.ic_base.specs.declared.settings.Settings.{Settings};
+ghost use Rattle.ic_law.specs.declared.history.HubAsk.{HubAsk};
+ghost use Rattle.ic_law.specs.declared.history.HubReply.TheVariants.{Memory};
 ghost use Rattle.ic_law.specs.declared.history.Entry.{Entry};
 ghost use Rattle.ic_law.specs.Points.{Every};
 ghost use Rattle.ic_law.specs.Receiving.{Receives};
@@ -16,4 +18,9 @@ pub fn keeps_law()
 /// Does nothing. Its clause: what doesn't concern a connection leaves it standing.
 pub fn others_pass()
     ensures { (s : Receiving) (settings : Settings) (h : List Entry) (e : Entry) → IsSilent s.end h e → Stands settings s h → Stands settings s (h ++ e ∷ []) }
+{}
+
+/// Does nothing. Its clause: an ask that found no memory leaves each connection standing.
+pub fn memory_passes()
+    ensures { (s : Receiving) (settings : Settings) (h : List Entry) (ask : HubAsk) → Stands settings s h → Stands settings s (h ++ record { ask = ask; reply = Memory } ∷ []) }
 {}

@@ -20,6 +20,6 @@ mod take_no;
 #[cfg(test)]
 mod tests;
 
-pub use laws::{keeps_law, others_pass};
+pub use laws::{keeps_law, memory_passes, others_pass};
 pub use receiver::Receiver;
 pub use take_no::TakeNo;
