@@ -7,3 +7,4 @@ mod Running
 mod Packets
 mod Places
 mod Sound
+pub mod Back

@@ -1,5 +1,5 @@
 -- What a binary search over kept packets tells of their numbers.
-use Rattle.std.proofs.Common.{◌≡◌, ℕ, zero, suc, ◌<◌, ◌≤◌, List, [], ◌∷◌, length, take, drop, get_or, subst, arith}
+use Rattle.std.proofs.Common.{◌≡◌, ℕ, zero, suc, ◌<◌, ◌≤◌, List, [], ◌∷◌, length, take, drop, get_or, slice_get, Some, ap, subst, arith}
 use Rattle.std.specs.declared.cmp.Ordering.TheVariants.{Less, Equal, Greater}
 use Rattle.std.specs.Ordering.{nat_cmp, ordering_index}
 use Rattle.std.specs.List.{Contains, AllByRecursion, HoldsAt}
@@ -42,6 +42,11 @@ pub found_is : (n : ℕ) (kept : List Kept) (i : ℕ) → i < length kept → Ho
 found_is n [] i lt at = absurd (omega (arith, lt))
 found_is n (k ∷ kept) zero lt at = subst (Contains (k.seq ∷ seqs_of kept)) (equal_is k.seq n (at k)) (Contains-head k.seq (seqs_of kept))
 found_is n (k ∷ kept) (suc i) lt at = Contains-tail k.seq (seqs_of kept) n (found_is n kept i (omega (arith, lt)) at)
+
+pub found_at : (n : ℕ) (kept : List Kept) (i : ℕ) → i < length kept → HoldsAt (λ (k : Kept). nat_cmp k.seq n ≡ Equal) kept i → slice_get (seqs_of kept) i ≡ Some n
+found_at n [] i lt at = absurd (omega (arith, lt))
+found_at n (k ∷ kept) zero lt at = ap Some (equal_is k.seq n (at k))
+found_at n (k ∷ kept) (suc i) lt at = found_at n kept i (omega (arith, lt)) at
 
 front_below : (n : ℕ) (kept : List Kept) (i : ℕ) → ((k : ℕ) (d : Kept) → k < i → k < length kept → nat_cmp (get_or kept k d).seq n ≡ Less) → AllByRecursion (λ m. m < n) (take i (seqs_of kept))
 front_below n kept zero each = tt

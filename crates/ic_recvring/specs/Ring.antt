@@ -1,5 +1,5 @@
 -- A receive ring: what it keeps, and what its calls do to it.
-use Rattle.std.specs.Prelude.{◌≡◌, ℕ, ◌+◌, ◌-◌, ◌<◌, ◌≤◌, ◌==◌, nat_lt, ◌⊎◌, List, [], ◌∷◌, ◌++◌, length, map, filter, find, drop, Bool, Option, Contains, All}
+use Rattle.std.specs.Prelude.{◌≡◌, ℕ, ◌+◌, ◌-◌, ◌<◌, ◌≤◌, ◌==◌, nat_lt, ◌⊎◌, List, [], ◌∷◌, ◌++◌, length, map, filter, find, drop, Bool, not, Option, Contains, All}
 use Rattle.ic_recvring.specs.declared.answer.Store.{Store}
 use Rattle.ic_recvring.specs.declared.answer.Store.TheVariants.{Duplicate, Beyond, Stored}
 use Rattle.ic_recvring.specs.Numbers.{numbers_from, Increases}
@@ -75,3 +75,9 @@ front_of s = find (λ p. p.seq == s.consumed + 1) s.kept
 -- the front, which is the first one kept, is gone
 abbrev pub after_front : Ring → Ring
 after_front s = record s { consumed = s.consumed + 1; kept = drop 1 s.kept }
+
+-- ---- taking back
+
+-- the packet of this number is gone
+abbrev pub without : ℕ → Ring → Ring
+without n s = record s { kept = filter (λ p. not (p.seq == n)) s.kept }

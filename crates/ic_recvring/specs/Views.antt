@@ -1,5 +1,5 @@
 -- Packets in memory, without where they lie.
-use Rattle.std.specs.Prelude.{ℕ, List, map, Option}
+use Rattle.std.specs.Prelude.{◌≡◌, ℕ, List, ◌∷◌, ◌++◌, map, Option}
 use Rattle.std.specs.Option.{option_map}
 use Rattle.ic_recvring.specs.declared.kept.Kept.{Kept}
 use Rattle.ic_recvring.specs.declared.sealed.Sealed.{Sealed}
@@ -19,3 +19,11 @@ ring_of depth packet consumed kept = record { consumed = consumed; kept = map pa
 -- their numbers
 abbrev pub seqs_of : List Kept → List ℕ
 seqs_of kept = map (λ k. k.seq) kept
+
+-- the packet of this number is taken out from among these
+pub record IsOut (kept : List Kept) (n : ℕ) (k : Kept) (left : List Kept) : Type 0 where
+  pub front : List Kept
+  pub back : List Kept
+  pub all : kept ≡ front ++ k ∷ back
+  pub rest : left ≡ front ++ back
+  pub seq : k.seq ≡ n

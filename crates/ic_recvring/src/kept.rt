@@ -1,8 +1,8 @@
 // The packets that are kept, by increasing number.
-ghost use Rattle.std.specs.Prelude.{◌≡◌, ℕ, ◌+◌, ◌-◌, ◌<◌, ◌≤◌, [], ◌++◌, length, insert, drop, vec_capacity, Contains, IfOk, IfErr, OnOk};
+ghost use Rattle.std.specs.Prelude.{◌≡◌, ℕ, ◌+◌, ◌-◌, ◌<◌, ◌≤◌, [], ◌++◌, length, insert, drop, vec_capacity, Contains, Some, IfOk, IfErr, OnOk, slice_get};
 ghost use Rattle.std.specs.VecDeque.{deque_len, deque_capacity};
 ghost use Rattle.ic_recvring.specs.Numbers.{Increases, IsPlace, RunsOn, numbers_from};
-ghost use Rattle.ic_recvring.specs.Views.{seqs_of, packet_of};
+ghost use Rattle.ic_recvring.specs.Views.{seqs_of, packet_of, IsOut};
 ghost use Rattle.ic_recvring.specs.Room.{HaveRoom};
 
 use std::alloc::{AllocError, Global};
@@ -46,6 +46,7 @@ pub(crate) fn filled(mut buffer: Vec<u8>, bytes: &[u8]) -> Vec<u8>
 pub(crate) fn find(kept: &VecDeque<Kept>, seq: u32) -> Result<usize, usize>
     requires { Increases 0 (seqs_of kept.now.items) }
     ensures found { IfOk result (λ _. Contains (seqs_of kept.now.items) seq) }
+    ensures at { IfOk result (λ i. slice_get (seqs_of kept.now.items) i ≡ Some seq) }
     ensures place { IfErr result (λ i. IsPlace (seqs_of kept.now.items) seq i) }
 {
     kept.binary_search_by_key(&seq, |k| k.seq)
@@ -61,6 +62,22 @@ pub(crate) fn put(kept: &mut VecDeque<Kept>, place: usize, packet: Kept)
     if kept.insert(place, packet).is_err() {
         unreachable!();
     }
+}
+
+/// Takes out the packet of this number, which is kept.
+pub(crate) fn take_out(kept: &mut VecDeque<Kept>, seq: u32) -> Kept
+    requires order { Increases 0 (seqs_of kept.old.items) }
+    requires there { Contains (seqs_of kept.old.items) seq }
+    ensures items { IsOut kept.old.items seq result kept.new.items }
+    ensures capacity { deque_capacity kept.new ≡ deque_capacity kept.old }
+{
+    let Ok(place) = find(kept, seq) else {
+        unreachable!();
+    };
+    let Some(packet) = kept.remove(place) else {
+        unreachable!();
+    };
+    packet
 }
 
 /// How far the run goes on over the packets from this place on.

@@ -1,11 +1,11 @@
 // The ring of one receiving connection.
-ghost use Rattle.std.specs.Prelude.{◌≡◌, ℕ, List, IfOk, IsSome, slice_get};
+ghost use Rattle.std.specs.Prelude.{◌≡◌, ℕ, List, IfOk, IsSome, slice_get, Contains};
 ghost use Rattle.ic_recvring.specs.Numbers.{IsRunEnd, IsGreatest, missing};
-ghost use Rattle.ic_recvring.specs.Ring.{Ring, IsRing, Stores, empty, stored_of, front_of, after_front};
+ghost use Rattle.ic_recvring.specs.Ring.{Ring, IsRing, Stores, empty, numbers, stored_of, front_of, after_front, without};
 ghost use Rattle.ic_recvring.specs.Views.{lent};
 
 use crate::answer::Store;
-use crate::kept::{Kept, buffers, filled, find, push_between, put, run_from};
+use crate::kept::{Kept, buffers, filled, find, push_between, put, run_from, take_out};
 use crate::sealed::Sealed;
 use crate::seqs::Seqs;
 use std::alloc::{AllocError, Global};
@@ -85,6 +85,17 @@ impl RecvRing {
         put(&mut self.kept, place, Kept { seq, last, payload });
         self.run = run_from(&self.kept, place, self.run);
         Store::Stored
+    }
+
+    /// Takes back the packet of this number, as if it hadn't been stored: for whoever can't answer it. Copies nothing,
+    /// and its buffer is free again.
+    pub fn take_back(&mut self, seq: u32)
+        requires { Contains (numbers self.old.kept) seq }
+        ensures { self.new ≡ without seq self.old }
+    {
+        let packet = take_out(&mut self.kept, seq);
+        self.spare.push_reserved(packet.payload);
+        self.run = self.run.min(seq - 1);
     }
 
     /// The packet that is to be consumed next, once it came.

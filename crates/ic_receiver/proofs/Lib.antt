@@ -1,0 +1,7 @@
+mod Numbers
+mod Shown
+mod Moving
+mod Came
+mod Taken
+mod Others
+mod Made
