@@ -18,7 +18,7 @@ use Rattle.ic_law.specs.History.{emits, emitted_of, arrives, arrived_of, rows_in
 use Rattle.ic_law.specs.Filling.{Sealed, plain, final}
 use Rattle.ic_law.specs.Points.{Place, place_at, IsDirected, IsFormed, final_of, chunks_in, Sends}
 use Rattle.ic_law.specs.Hub.{HubPoint, HubLaw}
-use Rattle.ic_law.specs.Streams.{history_of, NetworkLaw, IsSent, Follows, StreamsFollow}
+use Rattle.ic_law.specs.Streams.{history_of, NetworkLaw, AreSent, Follows, StreamsFollow}
 use Rattle.ic_law.proofs.Lists.{Contains-none, Contains-flat_map, flat_map-Contains, Contains-middle, prefix_by, get_push, inside, cut_map, map-append, flat_map-append}
 use Rattle.ic_law.proofs.Readings.{fold_every, rows_in-reads, rows_go_forth, takes_cases, parcels_of-push}
 use Rattle.ic_law.proofs.Regrouping.{regrouped, regrouped_whole}
@@ -163,7 +163,7 @@ not_whole (p ∷ ps) (g ∷ gs) same =
     let off : p.last ≡ false = ap (λ (s : Sealed). s.last) first in
     ap (λ b. b || list_any is_last_parcel ps) off ∙ not_whole ps gs rest
 
-some_rows : (c : ConnKey) (from to : List Entry) (sent : List (List Value)) → IsSent c from sent → (front : List (List (List ℕ))) (more : List (List ℕ))
+some_rows : (c : ConnKey) (from to : List Entry) (sent : List (List Value)) → AreSent c from sent → (front : List (List (List ℕ))) (more : List (List ℕ))
     → chunks_put_of c from ≡ together front ++ more → map sealed_in (parcels_of c to) ≡ map plain front → Follows c from to sent
 some_rows c from to sent is front more puts same =
     let first = front_assembles (together front) more sent is.rest false (subst (λ l. Assembles l sent is.rest false) puts is.assemble) in
@@ -175,7 +175,7 @@ some_rows c from to sent is front more puts same =
       whole = λ w. let no : true ≡ false = sym w ∙ not_whole (parcels_of c to) front same in cc;
     }
 
-all_rows : (c : ConnKey) (from to : List Entry) (sent : List (List Value)) → IsSent c from sent → (groups : List (List (List ℕ))) (last : List (List ℕ))
+all_rows : (c : ConnKey) (from to : List Entry) (sent : List (List Value)) → AreSent c from sent → (groups : List (List (List ℕ))) (last : List (List ℕ))
     → together groups ++ last ≡ chunks_put_of c from → IsFinished c from → map sealed_in (parcels_of c to) ≡ map plain groups ++ final last ∷ [] → Follows c from to sent
 all_rows c from to sent is groups last puts finished same =
     let payloads : map together groups ++ (together last ++ spelled end_of_stream) ∷ [] ≡ payloads_of c to =

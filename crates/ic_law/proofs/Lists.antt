@@ -81,6 +81,13 @@ list_any-append f (x ∷ xs) ys = by (f x) (list_any-append f xs ys)
     by true h = refl
     by false h = h
 
+pub list_any-push : {A : Type 0} (f : A → Bool) (xs : List A) (x : A) → list_any f (xs ++ x ∷ []) ≡ (list_any f xs || f x)
+list_any-push f xs x = list_any-append f xs (x ∷ []) ∙ ap (λ b. list_any f xs || b) (or_false (f x))
+  where
+    or_false : (b : Bool) → (b || false) ≡ b
+    or_false true = refl
+    or_false false = refl
+
 -- ---- cuts
 
 -- the one more stands last, or the place is among the others

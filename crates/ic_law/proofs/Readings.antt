@@ -1,6 +1,6 @@
 -- What one more entry adds to a history, and what readings of datagrams tell.
-use Rattle.std.proofs.Common.{◌≡◌, List, [], ◌∷◌, ◌++◌, Bool, true, false, cond, ◌&&◌, ◌==◌, Option, Some, None, Ok, Err, refl, sym, ◌∙◌, subst, inl, inr, ◌⊎◌, append_assoc, append-nil}
-use Rattle.std.specs.List.{Contains}
+use Rattle.std.proofs.Common.{◌≡◌, ℕ, List, [], ◌∷◌, ◌++◌, Bool, true, false, cond, ◌&&◌, ◌||◌, ◌==◌, max, map, Option, Some, None, Ok, Err, refl, ap, sym, ◌∙◌, subst, inl, inr, ◌⊎◌, append_assoc, append-nil, arith}
+use Rattle.std.specs.List.{Contains, flat_map, list_any}
 use Rattle.std.specs.Ordering.{int_eq}
 use Rattle.ic_base.specs.declared.keys.ConnKey.{ConnKey}
 use Rattle.ic_base.specs.declared.datagram.Datagram.{Datagram}
@@ -15,9 +15,9 @@ use Rattle.ic_law.specs.declared.history.HubReply.{HubReply}
 use Rattle.ic_law.specs.declared.history.HubReply.TheVariants.{Begun, Gave, Took, Came, Ticked, Cleared, Left, Memory}
 use Rattle.ic_law.specs.declared.history.Entry.{Entry}
 use Rattle.ic_law.specs.Packets.{Packet, RowPacket, packet_of, key_of, is_rows, is_last, goes_forth}
-use Rattle.ic_law.specs.History.{rows_read, rows_in, takes, parcel_for, parcels_from, parcels_in, parcels_of}
+use Rattle.ic_law.specs.History.{rows_read, rows_in, takes, parcel_for, parcels_from, parcels_in, parcels_of, emits, arrives, emitted_of, arrived_of, rows_emitted_of, rows_arrived_of, number_of, greatest, puts, chunks_put_of, finishes, finished_of, is_last_parcel, whole_of, stores, stored_of, stored_numbers_of, hears, heard_of, is_stop, stopped_of, leaves, left_of, run_told, consumed_told, run_heard, consumed_heard}
 use Rattle.ic_law.specs.Points.{Every}
-use Rattle.ic_law.proofs.Lists.{cut_at, Contains-one, Contains-none, flat_map-push}
+use Rattle.ic_law.proofs.Lists.{cut_at, Contains-one, Contains-none, flat_map-push, flat_map-append, map-append, list_any-append, list_any-push}
 
 -- ---- a point of every entry
 
@@ -127,3 +127,52 @@ takes_cases c e = by e.ask
 
 pub parcels_of-push : (c : ConnKey) (h : List Entry) (e : Entry) → parcels_of c (h ++ e ∷ []) ≡ parcels_of c h ++ takes c e
 parcels_of-push c h e = flat_map-push (takes c) h e
+
+-- ---- what one more entry adds
+
+pub emitted_of-push : (h : List Entry) (e : Entry) → emitted_of (h ++ e ∷ []) ≡ emitted_of h ++ emits e
+emitted_of-push h e = flat_map-push emits h e
+
+pub arrived_of-push : (h : List Entry) (e : Entry) → arrived_of (h ++ e ∷ []) ≡ arrived_of h ++ arrives e
+arrived_of-push h e = flat_map-push arrives h e
+
+pub rows_emitted_of-push : (c : ConnKey) (h : List Entry) (e : Entry) → rows_emitted_of c (h ++ e ∷ []) ≡ rows_emitted_of c h ++ flat_map (rows_in c) (emits e)
+rows_emitted_of-push c h e = ap (flat_map (rows_in c)) (emitted_of-push h e) ∙ flat_map-append (rows_in c) (emitted_of h) (emits e)
+
+pub rows_arrived_of-push : (c : ConnKey) (h : List Entry) (e : Entry) → rows_arrived_of c (h ++ e ∷ []) ≡ rows_arrived_of c h ++ flat_map (rows_in c) (arrives e)
+rows_arrived_of-push c h e = ap (flat_map (rows_in c)) (arrived_of-push h e) ∙ flat_map-append (rows_in c) (arrived_of h) (arrives e)
+
+pub chunks_put_of-push : (c : ConnKey) (h : List Entry) (e : Entry) → chunks_put_of c (h ++ e ∷ []) ≡ chunks_put_of c h ++ puts c e
+chunks_put_of-push c h e = flat_map-push (puts c) h e
+
+pub finished_of-push : (c : ConnKey) (h : List Entry) (e : Entry) → finished_of c (h ++ e ∷ []) ≡ (finished_of c h || finishes c e)
+finished_of-push c h e = list_any-push (finishes c) h e
+
+pub whole_of-push : (c : ConnKey) (h : List Entry) (e : Entry) → whole_of c (h ++ e ∷ []) ≡ (whole_of c h || list_any is_last_parcel (takes c e))
+whole_of-push c h e = ap (list_any is_last_parcel) (parcels_of-push c h e) ∙ list_any-append is_last_parcel (parcels_of c h) (takes c e)
+
+pub stored_of-push : (c : ConnKey) (h : List Entry) (e : Entry) → stored_of c (h ++ e ∷ []) ≡ stored_of c h ++ stores c e
+stored_of-push c h e = flat_map-push (stores c) h e
+
+pub stored_numbers_of-push : (c : ConnKey) (h : List Entry) (e : Entry) → stored_numbers_of c (h ++ e ∷ []) ≡ stored_numbers_of c h ++ map number_of (stores c e)
+stored_numbers_of-push c h e = ap (map number_of) (stored_of-push c h e) ∙ map-append number_of (stored_of c h) (stores c e)
+
+pub heard_of-push : (c : ConnKey) (h : List Entry) (e : Entry) → heard_of c (h ++ e ∷ []) ≡ heard_of c h ++ hears c e
+heard_of-push c h e = flat_map-push (hears c) h e
+
+pub stopped_of-push : (c : ConnKey) (h : List Entry) (e : Entry) → stopped_of c (h ++ e ∷ []) ≡ (stopped_of c h || list_any is_stop (hears c e))
+stopped_of-push c h e = ap (list_any is_stop) (heard_of-push c h e) ∙ list_any-append is_stop (heard_of c h) (hears c e)
+
+pub left_of-push : (h : List Entry) (e : Entry) → left_of (h ++ e ∷ []) ≡ left_of h ++ leaves e
+left_of-push h e = flat_map-push leaves h e
+
+pub greatest-append : (xs ys : List ℕ) → greatest (xs ++ ys) ≡ max (greatest xs) (greatest ys)
+greatest-append [] ys = omega arith
+greatest-append (x ∷ xs) ys = ap (max x) (greatest-append xs ys) ∙ omega arith
+
+pub run_heard-push : (c : ConnKey) (h : List Entry) (e : Entry) → run_heard c (h ++ e ∷ []) ≡ max (run_heard c h) (greatest (map run_told (hears c e)))
+run_heard-push c h e = ap (λ l. greatest (map run_told l)) (heard_of-push c h e) ∙ ap greatest (map-append run_told (heard_of c h) (hears c e)) ∙ greatest-append (map run_told (heard_of c h)) (map run_told (hears c e))
+
+pub consumed_heard-push : (c : ConnKey) (h : List Entry) (e : Entry) → consumed_heard c (h ++ e ∷ []) ≡ max (consumed_heard c h) (greatest (map consumed_told (hears c e)))
+consumed_heard-push c h e =
+    ap (λ l. greatest (map consumed_told l)) (heard_of-push c h e) ∙ ap greatest (map-append consumed_told (heard_of c h) (hears c e)) ∙ greatest-append (map consumed_told (heard_of c h)) (map consumed_told (hears c e))

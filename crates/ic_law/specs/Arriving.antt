@@ -11,7 +11,7 @@ use Rattle.ic_header.specs.declared.flags.Flags.TheVariants as flags
 use Rattle.ic_header.specs.Spelling.{written}
 use Rattle.ic_law.specs.declared.history.HubAsk.TheVariants.{Put, Finish, Take, TakeFrom, Halt}
 use Rattle.ic_law.specs.declared.history.HubReply.{HubReply}
-use Rattle.ic_law.specs.declared.history.HubReply.TheVariants.{Begun, Gave, Took, Came, Ticked, Cleared, Left, Memory}
+use Rattle.ic_law.specs.declared.history.HubReply.TheVariants.{Begun, Gave, Took, Came, Cleared, Left, Memory}
 use Rattle.ic_law.specs.declared.history.Arrived.TheVariants.{Dropped}
 use Rattle.ic_law.specs.declared.history.DropCause.TheVariants.{Foreign, Late}
 use Rattle.ic_law.specs.declared.history.HubNo.TheVariants as refused
@@ -113,17 +113,7 @@ pub record IsReady (query motion : ℕ) (before : List Entry) (end : ConnEnd) : 
   pub packet : RowPacket
   pub next : IsNext end.key before packet
 
-abbrev pub parcel_taken : HubReply → List Parcel
-parcel_taken (Begun r) = []
-parcel_taken (Gave r) = []
-parcel_taken (Took (Ok r)) = r.0 ∷ []
-parcel_taken (Took (Err refusal)) = []
-parcel_taken (Came how ds) = []
-parcel_taken (Ticked r) = []
-parcel_taken (Cleared r) = []
-parcel_taken (Left r) = []
-parcel_taken Memory = []
-
+-- the entry is a take of this motion that serves this sender
 pub record IsServed (query motion : ℕ) (e : Entry) (from : ℤ) : Type 0 where
   pub parcel : Parcel
   pub ds : List Datagram

@@ -11,10 +11,15 @@ use Rattle.ic_law.specs.declared.history.HubReply.{HubReply}
 use Rattle.ic_law.specs.declared.history.HubReply.TheVariants.{Begun, Gave, Took, Came, Ticked, Cleared, Left, Memory}
 use Rattle.ic_law.specs.declared.history.Arrived.TheVariants.{Dropped}
 use Rattle.ic_law.specs.declared.history.DropCause.TheVariants as cause
+use Rattle.ic_law.specs.declared.history.TickNo.{TickNo}
+use Rattle.ic_law.specs.declared.history.TickNo.TheVariants.{Spent}
 use Rattle.ic_law.specs.declared.history.Entry.{Entry}
-use Rattle.ic_law.specs.Packets.{Packet, packet_of}
-use Rattle.ic_law.specs.History.{emits, was_left}
-use Rattle.ic_law.specs.Points.{Place, Every, IsFormed, SameAgain, Sends, TakesNext, Tells, StopsAsked, IsHere, IsClear}
+use Rattle.ic_header.specs.declared.flags.Flags.{Flags}
+use Rattle.ic_law.specs.Asking.{IsAllowed}
+use Rattle.ic_law.specs.Emission.{IsFirstSpent}
+use Rattle.ic_law.specs.Packets.{Packet, packet_of, goes_forth}
+use Rattle.ic_law.specs.History.{emits, was_left, IsStopped}
+use Rattle.ic_law.specs.Points.{Place, Every, Emits, IsFormed, SameAgain, Sends, TakesNext, Tells, StopsAsked, IsHere, IsClear}
 use Rattle.ic_law.specs.Receiving.{Answers}
 use Rattle.ic_law.specs.Sending.{Refuses}
 use Rattle.ic_law.specs.Arriving.{Arrives, KnowsEnds, IsOfMotion, AnswersTakeAny, AnswersBegin, AnswersClear, AnswersLeave, IsLiveQuery}
@@ -57,14 +62,40 @@ kind_replied Memory = Refusing
 abbrev pub IsReplyTo : HubAsk → HubReply → Type 0
 IsReplyTo ask reply = (reply ≡ Memory) ⊎ (kind_replied reply ≡ kind_asked ask)
 
+-- ---- who asked for what is emitted
+
+-- an ask that can be answered with a packet to the sending end: a take, a halt, or a packet from there that came
+abbrev pub MayAnswer : HubAsk → Type 0
+MayAnswer (Begin query ends) = ⊥
+MayAnswer (Put key chunk) = ⊥
+MayAnswer (Finish key) = ⊥
+MayAnswer (Take query motion) = Unit {0}
+MayAnswer (TakeFrom key) = Unit {0}
+MayAnswer (Halt key) = Unit {0}
+MayAnswer (Arrive d) = (p : Packet) × (packet_of d ≡ Some p) × (goes_forth p.head.flags ≡ true)
+MayAnswer Tick = ⊥
+MayAnswer (Clear query) = ⊥
+MayAnswer (Leave query) = ⊥
+
+-- there is a sending end for this connection, and it isn't stopped
+pub record IsSendingEnd (before : List Entry) (e : Entry) (c : ConnKey) : Type 0 where
+  pub end : ConnEnd
+  pub here : IsHere end before
+  pub key : end.key ≡ c
+  pub sends : end.sending ≡ true
+  pub goes_on : IsStopped c (before ++ e ∷ []) → ⊥
+
 -- ---- the law
 
 -- the points of one entry
 pub record HubPoint (place : Place) (before : List Entry) (e : Entry) : Type 0 where
   pub replied : IsReplyTo e.ask e.reply
+  pub allowed : e.reply ≢ Memory → IsAllowed place before e.ask
   -- form
   pub formed : (d : Datagram) → Contains (emits e) d → IsFormed place d
   pub same : (c : ConnKey) → SameAgain c (before ++ e ∷ [])
+  pub forth : (c : ConnKey) (flags : Flags) (p : Packet) → goes_forth flags ≡ true → Emits e c flags p → IsSendingEnd before e c
+  pub back : (c : ConnKey) (flags : Flags) (p : Packet) → goes_forth flags ≡ false → Emits e c flags p → MayAnswer e.ask
   -- what was sent
   pub sent : (c : ConnKey) → Sends c (before ++ e ∷ [])
   -- what was taken, on connections of this session that end here
@@ -79,8 +110,9 @@ pub record HubPoint (place : Place) (before : List Entry) (e : Entry) : Type 0 w
   pub refused : (end : ConnEnd) → end.sending ≡ true → IsHere end before → Refuses place.settings end before e
   pub take : (query motion : ℕ) → e.ask ≡ Take query motion → (end : ConnEnd) → IsOfMotion query motion end before → e.reply ≢ Memory → AnswersTakeAny query motion before e.reply
   pub begin : (query : ℕ) (ends : List ConnEnd) → e.ask ≡ Begin query ends → e.reply ≢ Memory → AnswersBegin query before e.reply
-  pub clear : (query : ℕ) → e.ask ≡ Clear query → IsLiveQuery query before → e.reply ≢ Memory → AnswersClear query before e.reply
+  pub clear : (query : ℕ) → e.ask ≡ Clear query → IsLiveQuery query before → AnswersClear query before e.reply
   pub leave : (query : ℕ) → e.ask ≡ Leave query → e.reply ≢ Memory → AnswersLeave query before e.reply
+  pub tick : (refusal : TickNo) → e.reply ≡ Ticked (Err refusal) → (key : ConnKey) × (seq : ℕ) × IsFirstSpent place.settings before key seq × (refusal ≡ Spent key seq place.settings.retries)
   -- arrivals
   pub arrived : (d : Datagram) (p : Packet) → e.ask ≡ Arrive d → packet_of d ≡ Some p → e.reply ≢ Memory → Arrives place before d p e.reply
   pub unread : (d : Datagram) (fault : HeaderFault) → e.ask ≡ Arrive d → read_header d.bytes ≡ Err fault → e.reply ≢ Memory → e.reply ≡ Came (Dropped (cause.Header fault)) []

@@ -3,8 +3,10 @@ pub mod History
 pub mod Filling
 pub mod Numbers
 pub mod Points
+pub mod Asking
 pub mod Receiving
 pub mod Sending
 pub mod Arriving
+pub mod Emission
 pub mod Hub
 pub mod Streams

@@ -10,10 +10,8 @@ use Rattle.ic_header.specs.declared.flags.Flags.{Flags}
 use Rattle.ic_header.specs.declared.flags.Flags.TheVariants.{Ack, Stop, Disorder, Duplicate}
 use Rattle.ic_header.specs.Spelling.{Heads}
 use Rattle.ic_chunk.specs.Assembly.{together}
-use Rattle.ic_law.specs.declared.history.HubAsk.{HubAsk}
-use Rattle.ic_law.specs.declared.history.HubAsk.TheVariants.{Begin, Put, Finish, Take, TakeFrom, Halt, Arrive, Tick, Clear, Leave}
+use Rattle.ic_law.specs.declared.history.HubAsk.TheVariants.{Begin}
 use Rattle.ic_law.specs.declared.history.HubReply.{HubReply}
-use Rattle.ic_law.specs.declared.history.HubReply.TheVariants.{Begun, Gave, Took, Came, Ticked, Cleared, Left, Memory}
 use Rattle.ic_law.specs.declared.history.Entry.{Entry}
 use Rattle.ic_law.specs.Packets.{Packet, RowPacket, packet_of, key_of, goes_forth, IsSegment}
 use Rattle.ic_law.specs.History.{emits, emitted_of, rows_in, rows_emitted_of, rows_arrived_of, chunks_put_of, IsFinished, parcels_of, takes, IsWhole, IsHalted, IsHaltAsked, run_heard, IsStopped, left_of, was_begun}
@@ -39,23 +37,6 @@ pub record Emits (e : Entry) (c : ConnKey) (flags : Flags) (p : Packet) : Type 0
   pub reads : packet_of datagram ≡ Some p
   pub key : key_of p.head ≡ c
   pub flags_are : p.head.flags ≡ flags
-
--- ---- replies are of their asks
-
--- the reply is of the kind that answers the ask
-abbrev pub answers : HubAsk → HubReply → Bool
-answers ask Memory = true
-answers (Begin query ends) (Begun r) = true
-answers (Put key chunk) (Gave r) = true
-answers (Finish key) (Gave r) = true
-answers (Halt key) (Gave r) = true
-answers (Take query motion) (Took r) = true
-answers (TakeFrom key) (Took r) = true
-answers (Arrive d) (Came how ds) = true
-answers Tick (Ticked r) = true
-answers (Clear query) (Cleared r) = true
-answers (Leave query) (Left r) = true
-answers ask reply = false
 
 -- ---- the form of what is emitted
 
@@ -170,16 +151,3 @@ pub record IsHere (end : ConnEnd) (h : List Entry) : Type 0 where
   pub ends : List ConnEnd
   pub live : IsLive end.key.query ends h
   pub stands : Contains ends end
-
--- the first of these ends that isn't clear has this key
-pub record IsFirstUnclear (ends : List ConnEnd) (h : List Entry) (key : ConnKey) : Type 0 where
-  pub front : List ConnEnd
-  pub end : ConnEnd
-  pub back : List ConnEnd
-  pub all : ends ≡ front ++ end ∷ back
-  pub clear : (x : ConnEnd) → Contains front x → IsClear x h
-  pub unclear : IsClear end h → ⊥
-  pub is : key ≡ end.key
-
-abbrev pub AreClear : List ConnEnd → List Entry → Type 0
-AreClear ends h = (x : ConnEnd) → Contains ends x → IsClear x h

@@ -13,7 +13,7 @@ use Rattle.ic_law.specs.declared.history.Arrived.TheVariants.{Handled, Dropped}
 use Rattle.ic_law.specs.declared.history.DropCause.TheVariants as cause
 use Rattle.ic_law.specs.declared.history.HubNo.TheVariants as refused
 use Rattle.ic_law.specs.declared.history.Entry.{Entry}
-use Rattle.ic_law.specs.Packets.{Packet, packet_of, key_of}
+use Rattle.ic_law.specs.Packets.{Packet, packet_of, key_of, goes_forth}
 use Rattle.ic_law.specs.History.{sent_upto, IsStopped}
 use Rattle.ic_law.specs.Filling.{filling_of, fits, sealed_of, kept_of}
 use Rattle.ic_law.specs.Points.{IsDirected}
@@ -70,5 +70,5 @@ pub data AnswersHeard (end : ConnEnd) (before : List Entry) (p : Packet) (reply 
 pub record Refuses (settings : Settings) (end : ConnEnd) (before : List Entry) (e : Entry) : Type 0 where
   pub put : (chunk : List ℕ) → e.ask ≡ Put end.key chunk → e.reply ≢ Memory → AnswersPut settings end before (Fits settings end.key before chunk → ⊥) e.reply
   pub finish : e.ask ≡ Finish end.key → e.reply ≢ Memory → AnswersPut settings end before (Unit {0}) e.reply
-  pub heard : (d : Datagram) (p : Packet) → e.ask ≡ Arrive d → IsDirected false d end.key → packet_of d ≡ Some p → key_of p.head ≡ end.key → e.reply ≢ Memory
+  pub heard : (d : Datagram) (p : Packet) → e.ask ≡ Arrive d → IsDirected false d end.key → packet_of d ≡ Some p → goes_forth p.head.flags ≡ false → key_of p.head ≡ end.key → e.reply ≢ Memory
       → AnswersHeard end before p e.reply

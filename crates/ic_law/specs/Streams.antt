@@ -26,13 +26,13 @@ abbrev pub NetworkLaw : List (List Entry) → Type 0
 NetworkLaw nodes = (b : ℤ) (d : Datagram) → Contains (arrived_of (history_of nodes b)) d → (d.to ≡ b) × Contains (emitted_of (history_of nodes d.from)) d
 
 -- the rows sent: the chunks that were put assemble to them, and where the stream was finished nothing of a row is left
-pub record IsSent (c : ConnKey) (h : List Entry) (rows : List (List Value)) : Type 0 where
+pub record AreSent (c : ConnKey) (h : List Entry) (rows : List (List Value)) : Type 0 where
   pub rest : List ℕ
   pub assemble : Assembles (chunks_put_of c h) rows rest false
   pub none_left : IsFinished c h → rest ≡ []
 
 -- the rows taken: the payloads of the parcels assemble to them
-pub record IsTaken (c : ConnKey) (h : List Entry) (rows : List (List Value)) : Type 0 where
+pub record AreTaken (c : ConnKey) (h : List Entry) (rows : List (List Value)) : Type 0 where
   pub rest : List ℕ
   pub ended : Bool
   pub assemble : Assembles (payloads_of c h) rows rest ended
@@ -40,13 +40,13 @@ pub record IsTaken (c : ConnKey) (h : List Entry) (rows : List (List Value)) : T
 -- what was taken are rows, a front of those sent, and all of them where the end was taken
 pub record Follows (c : ConnKey) (sender receiver : List Entry) (sent : List (List Value)) : Type 0 where
   pub rows : List (List Value)
-  pub taken : IsTaken c receiver rows
+  pub taken : AreTaken c receiver rows
   pub prefix : IsPrefix rows sent
   pub whole : IsWhole c receiver → rows ≡ sent
 
 -- whatever rows were sent, those taken follow them
 abbrev pub StreamLaw : ConnKey → (sender receiver : List Entry) → Type 0
-StreamLaw c sender receiver = (sent : List (List Value)) → IsSent c sender sent → Follows c sender receiver sent
+StreamLaw c sender receiver = (sent : List (List Value)) → AreSent c sender sent → Follows c sender receiver sent
 
 -- where the network gives only what was emitted, and each hub keeps its law, each connection of the session has the stream law
 abbrev pub StreamsFollow : Type 0

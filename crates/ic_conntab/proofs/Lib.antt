@@ -1,0 +1,5 @@
+pub mod Keys
+pub mod Entries
+pub mod Finding
+pub mod Placing
+pub mod Ending

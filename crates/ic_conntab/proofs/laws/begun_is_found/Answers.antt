@@ -1,0 +1,5 @@
+use Rattle.ic_conntab.proofs.Finding.{begun_is_found}
+use Rattle.ic_conntab.proofs.laws.begun_is_found.Goals as goal
+
+pub returns : goal.returns
+returns c = begun_is_found

@@ -1,0 +1,18 @@
+// What a table answers.
+
+/// What a table says of a connection.
+#[derive(Clone, Copy, Debug, PartialEq, Eq)]
+pub enum Find {
+    /// A stranger's: the key is of another session, or its query is live without it.
+    Foreign,
+    /// Its query is live, and this is its place among the query's connections, from 0.
+    Here(usize),
+    /// Its query isn't live, and its id is at most the greatest that has ended.
+    Ended,
+    /// Its query isn't live, and no id that is as great has ended: the query may still begin.
+    NotBegun,
+}
+
+/// The query isn't live: whoever leaves it began it never, or has left it before.
+#[derive(Clone, Copy, Debug, PartialEq, Eq)]
+pub struct NotLive;

@@ -1,0 +1,69 @@
+// The live queries.
+ghost use Rattle.std.specs.Prelude.{◌≡◌, false, is_some, OnOk, OnErr, option_copied};
+ghost use Rattle.std.specs.FinMap as map;
+
+use crate::places::Places;
+use std::alloc::{AllocError, Global};
+use std::collections::HashMap;
+use std::marker::Model;
+
+/// How many queries there is room for from the start. A session runs few at a time; more take their room as they begin.
+const QUERIES: usize = 4;
+
+/// The connections of each live query, seen as the map from its id to their list.
+#[derive(Drop)]
+pub struct Live {
+    queries: HashMap<u32, Places>,
+}
+
+impl Model for Live {
+    ghost use Rattle.std.specs.Prelude.{List};
+    ghost use Rattle.std.specs.Ordering.{nat_cmp};
+    ghost use Rattle.std.specs.FinMap as map;
+    ghost use Rattle.ic_base.specs.declared.keys.ConnKey.{ConnKey};
+    ghost use Rattle.ic_conntab.specs.Codes.{live_code};
+
+    ghost Value = { map.FinMap nat_cmp (List ConnKey) };
+
+    ghost coded = { live_code };
+
+    ghost view = { λ l. map.from_entries l.queries.entries };
+}
+
+impl Live {
+    ghost use Rattle.std.specs.Prelude.{IfOk};
+
+    /// No query.
+    pub fn new(alloc: Global) -> Result<Live, AllocError>
+        ensures { IfOk result (λ l. l ≡ map.empty) }
+    {
+        Ok(Live {
+            queries: HashMap::with_capacity(alloc, QUERIES)?,
+        })
+    }
+
+    /// The connections of a live query.
+    pub fn get(&self, query: u32) -> Option<&Places>
+        ensures { option_copied result ≡ map.get self.now query }
+    {
+        self.queries.get(&query)
+    }
+
+    /// Puts a query's connections.
+    pub fn insert(&mut self, query: u32, places: Places) -> Result<(), AllocError>
+        ensures ok { OnOk result (self.new ≡ map.insert self.old query places) }
+        ensures err { OnErr result (self.new ≡ self.old) }
+    {
+        self.queries.insert(query, places)?;
+        Ok(())
+    }
+
+    /// Takes a query out, and says whether it was there.
+    pub fn remove(&mut self, query: u32) -> bool
+        ensures was { result ≡ is_some (map.get self.old query) }
+        ensures left { self.new ≡ map.remove self.old query }
+        ensures kept { result ≡ false → self.new ≡ self.old }
+    {
+        self.queries.remove(&query).is_some()
+    }
+}

@@ -1,0 +1,130 @@
+// The table.
+ghost use Rattle.std.specs.Prelude.{◌≡◌, ◌↔◌, ℕ, false, Option, None, Some, IfOk, OnOk, OnErr, Err};
+ghost use Rattle.std.specs.List.{IsDistinct};
+ghost use Rattle.ic_base.specs.Keys.{key_eq};
+ghost use Rattle.ic_conntab.specs.Table.{is_past, raised};
+ghost use Rattle.ic_base.specs.declared.keys.BeginNo.TheVariants.{Old, Twice};
+
+use crate::answer::{Find, NotLive};
+use crate::live::Live;
+use crate::places::Places;
+use ic_base::{BeginNo, ConnKey};
+use std::alloc::{AllocError, Global};
+use std::marker::Model;
+
+/// The connections of a segment in one session, by query: a demultiplexing table, Greenplum's connection hash table.
+///
+/// Seen as its session, the greatest id that has ended if any has, and the live queries with their connections.
+#[derive(Drop)]
+pub struct ConnTable {
+    session: u32,
+    /// The greatest id that has ended.
+    top: Option<u32>,
+    live: Live,
+}
+
+impl Model for ConnTable {
+    ghost use Rattle.ic_conntab.specs.Table.{Table};
+    ghost use Rattle.ic_conntab.specs.Codes.{table_code};
+
+    ghost Value = { Table };
+
+    ghost coded = { table_code };
+
+    ghost view = { λ t. record { session = t.session; top = t.top; live = t.live } };
+}
+
+impl ConnTable {
+    ghost use Rattle.ic_conntab.specs.Table.{fresh, begun, left, found, IsLive, IsOld};
+
+    /// A table of this session, of which no query has begun. Takes room for a few queries at once.
+    pub fn new(alloc: Global, session: u32) -> Result<ConnTable, AllocError>
+        ensures { IfOk result (λ t. t ≡ fresh session) }
+    {
+        Ok(ConnTable {
+            session,
+            top: None,
+            live: Live::new(alloc)?,
+        })
+    }
+
+    /// Begins a query with these connections, which are to be distinct and of this session and query. Copies each key
+    /// once, and takes the time of their number.
+    pub fn begin(&mut self, alloc: Global, query: u32, keys: &[ConnKey]) -> Result<(), BeginNo>
+        requires distinct { IsDistinct key_eq keys.now }
+        ensures ok { OnOk result (self.new ≡ begun self.old query keys.now) }
+        ensures old { (top : ℕ) → (result ≡ Err (Old top)) ↔ IsOld self.old query top }
+        ensures twice { (result ≡ Err Twice) ↔ ((is_past self.old.top query ≡ false) × IsLive self.old query) }
+        ensures err { OnErr result (self.new ≡ self.old) }
+    {
+        if let Some(top) = self.top
+            && query <= top
+        {
+            return Err(BeginNo::Old(top));
+        }
+        if self.live.get(query).is_some() {
+            return Err(BeginNo::Twice);
+        }
+        let Ok(places) = Places::new(alloc, keys) else {
+            return Err(BeginNo::Memory);
+        };
+        match self.live.insert(query, places) {
+            Ok(_) => Ok(()),
+            Err(_) => Err(BeginNo::Memory),
+        }
+    }
+
+    /// What the table says of a connection. Two look-ups by hash, however many connections there are.
+    pub fn find(&self, key: &ConnKey) -> Find
+        ensures { result ≡ found self.now key.now }
+    {
+        if key.session != self.session {
+            return Find::Foreign;
+        }
+        match self.live.get(key.query) {
+            Some(places) => match places.place(key) {
+                Some(place) => Find::Here(place),
+                None => Find::Foreign,
+            },
+            None => {
+                if is_past(self.top, key.query) {
+                    Find::Ended
+                } else {
+                    Find::NotBegun
+                }
+            }
+        }
+    }
+
+    /// Ends a query: its connections are gone, and its id never begins again. Takes no memory.
+    pub fn leave(&mut self, query: u32) -> Result<(), NotLive>
+        ensures ok { OnOk result (IsLive self.old query × (self.new ≡ left self.old query)) }
+        ensures err { OnErr result ((IsLive self.old query → ⊥) × (self.new ≡ self.old)) }
+    {
+        if !self.live.remove(query) {
+            return Err(NotLive);
+        }
+        self.top = Some(raised(self.top, query));
+        Ok(())
+    }
+}
+
+/// Whether an id is at most the greatest that has ended, if any has.
+fn is_past(top: Option<u32>, query: u32) -> bool
+    ensures { result ≡ is_past top query }
+{
+    match top {
+        Some(top) => query <= top,
+        None => false,
+    }
+}
+
+/// The greater of the two.
+fn raised(top: Option<u32>, query: u32) -> u32
+    ensures { result ≡ raised top query }
+{
+    match top {
+        Some(top) => top.max(query),
+        None => query,
+    }
+}

@@ -1,0 +1,45 @@
+-- Which asks a hub may be given.
+use Rattle.std.specs.Prelude.{◌≡◌, ◌≢◌, ℕ, ◌+◌, ◌≤◌, List, ◌++◌, ◌∷◌, length, true, false, not, Contains}
+use Rattle.ic_base.specs.declared.keys.ConnEnd.{ConnEnd}
+use Rattle.ic_chunk.specs.declared.chunk.ChunkKind.TheVariants.{EndOfStream}
+use Rattle.ic_chunk.specs.Chunks.{Chunk, IsChunk, spelled}
+use Rattle.ic_law.specs.declared.history.HubAsk.{HubAsk}
+use Rattle.ic_law.specs.declared.history.HubAsk.TheVariants.{Begin, Put, Finish, Take, TakeFrom, Halt, Arrive, Tick, Clear, Leave}
+use Rattle.ic_law.specs.declared.history.Entry.{Entry}
+use Rattle.ic_law.specs.History.{IsFinished}
+use Rattle.ic_law.specs.Points.{Place, IsLive}
+
+-- an end of a query that begins here: of this session and query, and at this segment on its side
+pub record IsEndHere (place : Place) (query : ℕ) (end : ConnEnd) : Type 0 where
+  pub session : end.key.session ≡ place.session
+  pub query_is : end.key.query ≡ query
+  pub sends_here : end.sending ≡ true → end.key.from ≡ place.at
+  pub receives_here : end.sending ≡ false → end.key.to ≡ place.at
+
+-- The ends of a query that begins here: no two have one key and one side, and a connection of the segment to itself
+-- stands with both sides.
+pub record AreEnds (place : Place) (query : ℕ) (ends : List ConnEnd) : Type 0 where
+  pub each : (end : ConnEnd) → Contains ends end → IsEndHere place query end
+  pub once : (front between back : List ConnEnd) (a b : ConnEnd) → ends ≡ front ++ a ∷ between ++ b ∷ back → a.key ≡ b.key → a.sending ≢ b.sending
+  pub both : (end : ConnEnd) → Contains ends end → end.key.from ≡ end.key.to → (other : ConnEnd) × Contains ends other × (other.key ≡ end.key) × (other.sending ≡ not end.sending)
+
+-- one tuple chunk that isn't an end of stream, and that a packet has room for
+pub record IsPuttable (place : Place) (bytes : List ℕ) : Type 0 where
+  pub chunk : Chunk
+  pub allowed : IsChunk chunk
+  pub goes_on : chunk.kind ≢ EndOfStream
+  pub are : bytes ≡ spelled chunk
+  pub room : length bytes + 68 ≤ place.settings.packet
+
+-- the ask meets the conditions of its call: nothing is put behind the end of stream, and a query is live where it is asked whether it is clear
+abbrev pub IsAllowed : Place → List Entry → HubAsk → Type 0
+IsAllowed place before (Begin query ends) = AreEnds place query ends
+IsAllowed place before (Put key chunk) = IsPuttable place chunk × (IsFinished key before → ⊥)
+IsAllowed place before (Finish key) = IsFinished key before → ⊥
+IsAllowed place before (Take query motion) = Unit {0}
+IsAllowed place before (TakeFrom key) = Unit {0}
+IsAllowed place before (Halt key) = Unit {0}
+IsAllowed place before (Arrive d) = Unit {0}
+IsAllowed place before Tick = Unit {0}
+IsAllowed place before (Clear query) = (ends : List ConnEnd) × IsLive query ends before
+IsAllowed place before (Leave query) = Unit {0}
