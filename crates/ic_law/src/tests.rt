@@ -4,3 +4,4 @@ mod datagrams;
 mod judge;
 mod lawful;
 mod steps;
+mod unlawful;

@@ -1,18 +1,24 @@
 // The laws on histories as a plain slow program, point by point in the words of the definitions. It says which point
 // is the first that an entry breaks.
 mod arriving;
+mod asking;
+mod emission;
 mod filling;
 mod forms;
+mod hearing;
+mod queries;
 mod readings;
 mod receiving;
 mod sending;
 mod streams;
 mod telling;
+mod timing;
 
 use crate::{Entry, Histories, HubAsk, HubReply};
-use ic_base::{SegId, Settings};
+use ic_base::{ConnEnd, SegId, Settings};
 use ic_header::Flags;
 use std::alloc::{AllocError, Global};
+pub use streams::stream;
 
 /// Where a hub is.
 #[derive(Clone, Copy)]
@@ -22,13 +28,17 @@ pub struct Place {
     pub settings: Settings,
 }
 
-/// A point of the laws: the network's, one for each part of the hub law's points, and the stream's.
+/// A point of the laws: the network's, one for each part of the hub law's points, those of what is emitted, and the
+/// stream's.
 #[derive(Clone, Copy, Debug, PartialEq, Eq)]
 pub enum Point {
     Network,
     Replied,
+    Allowed,
     Formed,
     Same,
+    Forth,
+    Back,
     Sent,
     Taken,
     ToldAck,
@@ -48,6 +58,7 @@ pub enum Point {
     Begin,
     Clear,
     Leave,
+    Tick,
     Arrived,
     Unread,
     AnsweredRows,
@@ -55,6 +66,9 @@ pub enum Point {
     AnsweredTake,
     AnsweredTakeFrom,
     AnsweredHalt,
+    Unspent,
+    EmittedRows,
+    EmittedQueries,
     Stream,
 }
 
@@ -83,8 +97,14 @@ fn replied(e: &Entry) -> bool {
 fn broken_word(place: &Place, before: &[Entry], now: &[Entry], e: &Entry) -> Option<Point> {
     for (point, holds) in [
         (Point::Replied, replied(e)),
+        (
+            Point::Allowed,
+            is_memory(e) || asking::allowed(place, before, e),
+        ),
         (Point::Formed, forms::formed(place, e)),
         (Point::Same, forms::is_same(now)),
+        (Point::Forth, asking::forth(before, now, e)),
+        (Point::Back, asking::back(e)),
         (Point::Sent, filling::sent(now)),
         (Point::Taken, telling::taken(place, before, e)),
         (Point::ToldAck, telling::told(Flags::Ack, now, e)),
@@ -154,10 +174,19 @@ fn takes(before: &[Entry], e: &Entry) -> bool {
     }
 }
 
-/// The first point of what an ask is answered that an entry breaks. An ask may always be answered Memory.
-fn broken_answer(place: &Place, before: &[Entry], e: &Entry) -> Option<Point> {
-    if matches!(e.reply, HubReply::Memory) {
-        return None;
+fn is_memory(e: &Entry) -> bool {
+    matches!(e.reply, HubReply::Memory)
+}
+
+/// The first point of what an ask is answered that an entry breaks. An ask may be answered Memory, but for a Clear.
+fn broken_answer(
+    alloc: Global,
+    place: &Place,
+    before: &[Entry],
+    e: &Entry,
+) -> Result<Option<Point>, AllocError> {
+    if is_memory(e) && !matches!(e.ask, HubAsk::Clear { .. }) {
+        return Ok(None);
     }
     for (point, holds) in [
         knows(before, e),
@@ -165,6 +194,10 @@ fn broken_answer(place: &Place, before: &[Entry], e: &Entry) -> Option<Point> {
         (Point::RefusedFinish, sending::finish(place, before, e)),
         (Point::RefusedHeard, sending::heard(before, e)),
         serves(before, e),
+        (
+            Point::Tick,
+            emission::tick(alloc, &place.settings, before, e)?,
+        ),
         (Point::Arrived, arriving::arrived(place, before, e)),
         (Point::Unread, arriving::unread(e)),
         (Point::AnsweredRows, receiving::rows(place, before, e)),
@@ -172,30 +205,82 @@ fn broken_answer(place: &Place, before: &[Entry], e: &Entry) -> Option<Point> {
         (Point::AnsweredTake, takes(before, e)),
         (Point::AnsweredTakeFrom, receiving::take_from(before, e)),
         (Point::AnsweredHalt, receiving::halt(before, e)),
+        (
+            Point::Unspent,
+            emission::is_unspent(alloc, &place.settings, before, e)?,
+        ),
     ] {
         if !holds {
-            return Some(point);
+            return Ok(Some(point));
         }
     }
-    None
+    Ok(None)
 }
 
-/// The first point of the hub law that an entry of this history breaks.
-pub fn broken_by_hub(place: &Place, h: &[Entry]) -> Option<Point> {
+/// The first point of what these ends owe to the network that an entry breaks.
+fn broken_by_ends(
+    alloc: Global,
+    settings: &Settings,
+    ends: &[ConnEnd],
+    before: &[Entry],
+    now: &[Entry],
+) -> Result<Option<Point>, AllocError> {
+    for end in ends {
+        if !end.sending {
+            continue;
+        }
+        if !emission::rows(alloc, end, settings, before, now)? {
+            return Ok(Some(Point::EmittedRows));
+        }
+        if !emission::queries(alloc, end, settings, before, now)? {
+            return Ok(Some(Point::EmittedQueries));
+        }
+    }
+    Ok(None)
+}
+
+/// The first point of what sending ends owe to the network that an entry breaks.
+fn broken_emission(
+    alloc: Global,
+    settings: &Settings,
+    before: &[Entry],
+    now: &[Entry],
+) -> Result<Option<Point>, AllocError> {
+    for begun in before {
+        if let HubAsk::Begin { query, .. } = begun.ask {
+            let ends = arriving::ends_of(query, before);
+            let broken = broken_by_ends(alloc, settings, ends, before, now)?;
+            if broken.is_some() {
+                return Ok(broken);
+            }
+        }
+    }
+    Ok(None)
+}
+
+/// The first point of the hub law, and of the emission law, that an entry of this history breaks.
+pub fn broken_by_hub(
+    alloc: Global,
+    place: &Place,
+    h: &[Entry],
+) -> Result<Option<Point>, AllocError> {
     for count in 0..h.len() {
         let (before, _) = h.split_at(count);
         let (now, _) = h.split_at(count + 1);
-        let e = &h[count];
-        let broken = broken_word(place, before, now, e);
-        if broken.is_some() {
-            return broken;
+        let word = broken_word(place, before, now, &h[count]);
+        if word.is_some() {
+            return Ok(word);
         }
-        let broken = broken_answer(place, before, e);
-        if broken.is_some() {
-            return broken;
+        let answer = broken_answer(alloc, place, before, &h[count])?;
+        if answer.is_some() {
+            return Ok(answer);
+        }
+        let emission = broken_emission(alloc, &place.settings, before, now)?;
+        if emission.is_some() {
+            return Ok(emission);
         }
     }
-    None
+    Ok(None)
 }
 
 /// The first point of the laws that the histories of a session's segments break.
@@ -205,8 +290,8 @@ pub fn broken(
     settings: Settings,
     nodes: &Histories,
 ) -> Result<Option<Point>, AllocError> {
-    for (place, history) in (-1..64).zip(nodes.as_slice()) {
-        let Some(at) = SegId::new(place) else {
+    for (number, history) in (-1..64).zip(nodes.as_slice()) {
+        let Some(at) = SegId::new(number) else {
             continue;
         };
         if !streams::network(nodes, at) {
@@ -217,7 +302,7 @@ pub fn broken(
             at,
             settings,
         };
-        let broken = broken_by_hub(&place, history.as_slice());
+        let broken = broken_by_hub(alloc, &place, history.as_slice())?;
         if broken.is_some() {
             return Ok(broken);
         }

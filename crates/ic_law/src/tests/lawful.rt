@@ -186,21 +186,26 @@ const TO_ITSELF: &[Step] = &[
     (Leave(1), Left),
 ];
 
+/// Settings, and the histories of the dispatcher, of segment 0 and of segment 1.
+type Session = (&'static str, Settings, [&'static [Step]; 3]);
+
+const SESSIONS: &[Session] = &[
+    (
+        "two rows in one packet, of a query that is over",
+        Settings::DEFAULT,
+        [TWO_ROWS_TAKEN, TWO_ROWS_SENT, &[]],
+    ),
+    ("a lost Ack", TIGHT, [TOLD_AGAIN, ASKED_AGAIN, &[]]),
+    ("the opposite order", WIDE, [OUT_OF_ORDER, SENT_AGAIN, &[]]),
+    ("a stream that is halted", SMALL, [HALTED, STOPPED, &[]]),
+    ("a stream to the sender", SMALL, [&[], TO_ITSELF, &[]]),
+];
+
 #[test]
 fn whole_sessions_keep_the_laws(rt: HostRuntime) -> Result<(), Fail> {
-    for (name, settings, nodes) in [
-        (
-            "two rows in one packet, of a query that is over",
-            Settings::DEFAULT,
-            [TWO_ROWS_TAKEN, TWO_ROWS_SENT, &[]],
-        ),
-        ("a lost Ack", TIGHT, [TOLD_AGAIN, ASKED_AGAIN, &[]]),
-        ("the opposite order", WIDE, [OUT_OF_ORDER, SENT_AGAIN, &[]]),
-        ("a stream that is halted", SMALL, [HALTED, STOPPED, &[]]),
-        ("a stream to the sender", SMALL, [&[], TO_ITSELF, &[]]),
-    ] {
-        let nodes = histories(rt.alloc(), nodes)?;
-        let found = broken(rt.alloc(), SESSION, settings, &nodes)?;
+    for (name, settings, nodes) in SESSIONS {
+        let nodes = histories(rt.alloc(), *nodes)?;
+        let found = broken(rt.alloc(), SESSION, *settings, &nodes)?;
         assert_eq!(rt; found, None, "{name}");
     }
     Ok(())
@@ -273,8 +278,9 @@ fn hubs_keep_their_law(rt: HostRuntime) -> Result<(), Fail> {
             at: segment(0),
             settings,
         };
-        let history = history(rt.alloc(), &[steps])?;
-        assert_eq!(rt; broken_by_hub(&place, history.as_slice()), None, "{name}");
+        let history = history(rt.alloc(), steps)?;
+        let found = broken_by_hub(rt.alloc(), &place, history.as_slice())?;
+        assert_eq!(rt; found, None, "{name}");
     }
     Ok(())
 }

@@ -52,6 +52,8 @@ pub enum Reply {
     Dropped(DropCause, &'static [Says]),
     Ticked(&'static [Says]),
     Spent(Link, u32, u32),
+    /// A tick without memory, told as no hub tells it.
+    NotTicked,
     Cleared,
     Unclear(Link),
     Left,
@@ -140,6 +142,7 @@ impl Reply {
                 seq,
                 tries,
             })),
+            Reply::NotTicked => HubReply::Ticked(Err(TickNo::Memory)),
             Cleared => HubReply::Cleared(Ok(())),
             Reply::Unclear(link) => HubReply::Cleared(Err(Unclear(link.key()))),
             Left => HubReply::Left(Ok(())),
@@ -150,17 +153,30 @@ impl Reply {
     }
 }
 
-/// The history of these steps.
-pub fn history(alloc: Global, parts: &[&[Step]]) -> Result<History, AllocError> {
-    let mut history = History::new(alloc);
-    for steps in parts {
-        for (ask, reply) in *steps {
-            history.push(Entry {
-                ask: ask.ask(alloc)?,
-                reply: reply.reply(alloc)?,
-            })?;
-        }
+fn add(alloc: Global, history: &mut History, steps: &[Step]) -> Result<(), AllocError> {
+    for (ask, reply) in steps {
+        history.push(Entry {
+            ask: ask.ask(alloc)?,
+            reply: reply.reply(alloc)?,
+        })?;
     }
+    Ok(())
+}
+
+/// The history of these steps.
+pub fn history(alloc: Global, steps: &[Step]) -> Result<History, AllocError> {
+    let mut history = History::new(alloc);
+    add(alloc, &mut history, steps)?;
+    Ok(history)
+}
+
+/// The history of these parts, and of a last step.
+pub fn history_with(alloc: Global, front: &[&[Step]], last: Step) -> Result<History, AllocError> {
+    let mut history = History::new(alloc);
+    for steps in front {
+        add(alloc, &mut history, steps)?;
+    }
+    add(alloc, &mut history, &[last])?;
     Ok(history)
 }
 

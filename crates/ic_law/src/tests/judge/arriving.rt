@@ -1,10 +1,8 @@
 // What a hub makes of a datagram that comes, and of asks that begin, clear and leave queries.
 use super::Place;
 use super::forms::{handled_with, is_directed, is_dropped, is_spelled};
-use super::readings::{
-    Packet, arrives, goes_forth, greatest_left, here, is_ended, is_old, key_of, live_ends,
-    packet_of,
-};
+use super::queries::{greatest_left, here, is_old, live_ends};
+use super::readings::{Packet, arrives, goes_forth, is_ended, key_of, packet_of};
 use super::receiving::{is_not_taken, is_taken, next};
 use super::sending::is_not_given;
 use super::telling::first_unclear;

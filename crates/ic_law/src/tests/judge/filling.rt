@@ -1,6 +1,7 @@
 // How the chunks that are put fill packets, and what of them is emitted.
+use super::hearing::run_heard;
 use super::readings::{
-    chunk_at, chunk_put, emits, emitted_first, is_finished, key_of, packet_of, rows_in, run_heard,
+    RowPacket, chunk_at, chunk_put, emits, emitted_first, is_finished, key_of, packet_of, rows_in,
     sent_upto,
 };
 use crate::Entry;
@@ -41,6 +42,34 @@ pub fn sealed(c: &ConnKey, settings: &Settings, h: &[Entry]) -> u32 {
         full.saturating_add(1)
     } else {
         full
+    }
+}
+
+/// Whether this packet of rows is the one of its number that is sealed.
+pub fn is_sealed(c: &ConnKey, settings: &Settings, packet: &RowPacket<'_>, h: &[Entry]) -> bool {
+    let mut filling = Filling { full: 0, opened: 0 };
+    let mut left = packet.payload;
+    for e in h {
+        let Some(chunk) = chunk_put(c, e) else {
+            continue;
+        };
+        if fits(settings, filling.opened, chunk) {
+            filling.opened = filling.opened.saturating_add(chunk.len());
+        } else {
+            filling.full = filling.full.saturating_add(1);
+            filling.opened = chunk.len();
+        }
+        if filling.full.saturating_add(1) == packet.seq {
+            match left.split_at_checked(chunk.len()) {
+                Some((front, back)) if front == chunk => left = back,
+                _ => return false,
+            }
+        }
+    }
+    if packet.last {
+        packet.seq == sealed(c, settings, h) && is_finished(c, h) && left == [0, 0, 0, 4].as_slice()
+    } else {
+        packet.seq <= filling.full && left.is_empty()
     }
 }
 

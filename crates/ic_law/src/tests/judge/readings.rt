@@ -1,6 +1,6 @@
 // What is read from a history, by walking over its entries for each question.
-use crate::{Arrived, Entry, HubAsk, HubReply};
-use ic_base::{ConnEnd, ConnKey, Datagram, Parcel, SegId};
+use crate::{Entry, HubAsk, HubReply};
+use ic_base::{ConnKey, Datagram, Parcel, SegId};
 use ic_header::{Flags, Header, read};
 
 /// A header with the body behind it.
@@ -323,110 +323,4 @@ pub fn greatest(c: &ConnKey, further: u32, h: &[Entry]) -> u32 {
         }
     }
     greatest
-}
-
-// ---- answers heard
-
-/// The answer of `c` that an entry hears.
-fn heard_in<'a>(c: &ConnKey, e: &'a Entry) -> Option<Packet<'a>> {
-    let packet = packet_of(arrives(e)?)?;
-    let is_handled = matches!(e.reply, HubReply::Came(Arrived::Handled, _));
-    if !is_handled || goes_forth(packet.head.flags) || key_of(&packet.head)? != *c {
-        return None;
-    }
-    Some(packet)
-}
-
-/// The numbers of a body, four bytes each, of which this is the one at a place.
-pub fn word_at(body: &[u8], place: usize) -> Option<u32> {
-    let (_, rest) = body.split_at_checked(place.saturating_mul(4))?;
-    let (word, _) = rest.split_first_chunk::<4>()?;
-    Some(u32::from_be_bytes(*word))
-}
-
-/// The run end that an answer tells, and 0 where it tells none.
-fn run_told(packet: &Packet<'_>) -> u32 {
-    match packet.head.flags {
-        Flags::Ack => packet.head.seq,
-        Flags::Disorder => word_at(packet.body, 0).unwrap_or(0).saturating_sub(1),
-        Flags::Duplicate => packet.head.extra,
-        _ => 0,
-    }
-}
-
-/// The greatest run end heard on `c`.
-pub fn run_heard(c: &ConnKey, h: &[Entry]) -> u32 {
-    let mut end = 0;
-    for e in h {
-        if let Some(answer) = heard_in(c, e) {
-            end = run_told(&answer).max(end);
-        }
-    }
-    end
-}
-
-/// Whether a Stop for `c` was handled.
-pub fn is_stopped(c: &ConnKey, h: &[Entry]) -> bool {
-    for e in h {
-        if let Some(answer) = heard_in(c, e)
-            && answer.head.flags == Flags::Stop
-        {
-            return true;
-        }
-    }
-    false
-}
-
-// ---- queries
-
-/// The query that an entry leaves.
-pub fn left_by(e: &Entry) -> Option<u32> {
-    match (&e.ask, &e.reply) {
-        (HubAsk::Leave { query }, HubReply::Left(Ok(()))) => Some(*query),
-        _ => None,
-    }
-}
-
-/// The greatest query that was left.
-pub fn greatest_left(h: &[Entry]) -> Option<u32> {
-    let mut top = None;
-    for e in h {
-        top = left_by(e).max(top);
-    }
-    top
-}
-
-/// Whether a query, or one with a greater number, was left.
-pub fn is_old(query: u32, h: &[Entry]) -> bool {
-    match greatest_left(h) {
-        Some(top) => query <= top,
-        None => false,
-    }
-}
-
-/// The ends with which a live query began.
-pub fn live_ends(query: u32, h: &[Entry]) -> Option<&[ConnEnd]> {
-    let mut live = None;
-    for e in h {
-        if left_by(e) == Some(query) {
-            return None;
-        }
-        if let HubAsk::Begin { query: begun, ends } = &e.ask
-            && *begun == query
-            && matches!(e.reply, HubReply::Begun(Ok(())))
-        {
-            live = Some(ends.as_slice());
-        }
-    }
-    live
-}
-
-/// The end of this key and side that is there.
-pub fn here<'a>(key: &ConnKey, sending: bool, h: &'a [Entry]) -> Option<&'a ConnEnd> {
-    for end in live_ends(key.query, h)? {
-        if end.key == *key && end.sending == sending {
-            return Some(end);
-        }
-    }
-    None
 }

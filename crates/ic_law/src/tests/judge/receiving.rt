@@ -1,9 +1,10 @@
 // What a receiving end answers.
 use super::Place;
 use super::forms::{handled_with, is_answer, is_directed, is_dropped, is_handled};
+use super::queries::here;
 use super::readings::{
-    RowPacket, arrives, consumed, greatest, has, here, is_ended, is_halted, key_of, packet_of,
-    rows_in, run_end, stored,
+    RowPacket, arrives, consumed, greatest, has, is_ended, is_halted, key_of, packet_of, rows_in,
+    run_end, stored,
 };
 use crate::{DropCause, Entry, HubAsk, HubNo, HubReply};
 use ic_base::{ConnEnd, ConnKey, Datagram, Parcel};

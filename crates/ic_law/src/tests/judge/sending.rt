@@ -2,9 +2,9 @@
 use super::Place;
 use super::filling::{filled, fits, kept, sealed};
 use super::forms::{is_directed, is_dropped};
-use super::readings::{
-    Packet, arrives, goes_forth, here, is_stopped, key_of, packet_of, sent_upto, word_at,
-};
+use super::hearing::{is_stopped, word_at};
+use super::queries::here;
+use super::readings::{Packet, arrives, goes_forth, key_of, packet_of, sent_upto};
 use crate::{Arrived, DropCause, Entry, HubAsk, HubNo, HubReply};
 use ic_base::ConnEnd;
 use ic_header::{Flags, Header};

@@ -1,9 +1,10 @@
 // What is taken, and what answers tell.
 use super::Place;
+use super::hearing::{is_stopped, run_heard, word_at};
+use super::queries::{is_old, left_by, live_ends};
 use super::readings::{
-    Packet, consumed, emits, emitted_first, has_come, is_ended, is_finished, is_halt_asked, is_old,
-    is_stopped, key_of, left_by, live_ends, packet_of, parcel_in, run_had, run_heard, sent_upto,
-    word_at,
+    Packet, consumed, emits, emitted_first, has_come, is_ended, is_finished, is_halt_asked, key_of,
+    packet_of, parcel_in, run_had, sent_upto,
 };
 use crate::{Entry, HubAsk, HubReply};
 use ic_base::{ConnEnd, ConnKey};
