@@ -3,3 +3,4 @@ pub mod Entries
 pub mod Finding
 pub mod Placing
 pub mod Ending
+pub mod Apart

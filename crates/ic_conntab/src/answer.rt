@@ -9,10 +9,10 @@ pub enum Find {
     Here(usize),
     /// Its query isn't live, and its id is at most the greatest that has ended.
     Ended,
-    /// Its query isn't live, and no id that is as great has ended: the query may still begin.
+    /// Its query isn't live, and its id is greater than all that have ended: it may still begin.
     NotBegun,
 }
 
-/// The query isn't live: whoever leaves it began it never, or has left it before.
+/// The query isn't live: its caller never began it, or has left it before.
 #[derive(Clone, Copy, Debug, PartialEq, Eq)]
 pub struct NotLive;

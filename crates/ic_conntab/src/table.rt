@@ -14,7 +14,8 @@ use std::marker::Model;
 
 /// The connections of a segment in one session, by query: a demultiplexing table, Greenplum's connection hash table.
 ///
-/// Seen as its session, the greatest id that has ended if any has, and the live queries with their connections.
+/// Seen as its session, the greatest id that has ended if any has, and the live queries with their connections. Several
+/// queries may be live at once, and one that is live may be below the greatest that has ended.
 #[derive(Drop)]
 pub struct ConnTable {
     session: u32,
@@ -48,8 +49,8 @@ impl ConnTable {
         })
     }
 
-    /// Begins a query with these connections, which are to be distinct and of this session and query. Copies each key
-    /// once, and takes the time of their number.
+    /// Begins a query with these connections, which are to be distinct and of this session and query; others are never
+    /// found. Their places are counted from 0. Copies and hashes each key once.
     pub fn begin(&mut self, alloc: Global, query: u32, keys: &[ConnKey]) -> Result<(), BeginNo>
         requires distinct { IsDistinct key_eq keys.now }
         ensures ok { OnOk result (self.new ≡ begun self.old query keys.now) }
@@ -74,7 +75,7 @@ impl ConnTable {
         }
     }
 
-    /// What the table says of a connection. Two look-ups by hash, however many connections there are.
+    /// What the table says of a connection. Two look-ups by hash, however many connections there are. Takes no memory.
     pub fn find(&self, key: &ConnKey) -> Find
         ensures { result ≡ found self.now key.now }
     {

@@ -19,6 +19,7 @@ fn key(session: u32, query: u32, motion: u32) -> ConnKey
 }
 
 /// The connections of two motions of a query of session 7.
+#[tactic(auto, using(crate::proofs::Apart::two_distinct))]
 fn two(query: u32, first: u32, second: u32) -> [ConnKey; 2]
     requires differ { (first == second) ≡ false }
     ensures distinct { IsDistinct key_eq result }
@@ -27,6 +28,7 @@ fn two(query: u32, first: u32, second: u32) -> [ConnKey; 2]
 }
 
 /// One of them.
+#[tactic(auto, using(crate::proofs::Apart::one_distinct))]
 fn one(query: u32) -> [ConnKey; 1]
     ensures distinct { IsDistinct key_eq result }
 {
