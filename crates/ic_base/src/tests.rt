@@ -42,89 +42,40 @@ fn segments_are_numbered_from_the_dispatcher_to_63(rt: HostRuntime) -> Result<()
     Ok(())
 }
 
+/// The defaults with these numbers in place of theirs, in the order of the fields.
+fn settings_of(numbers: [u32; 4]) -> Settings {
+    let [packet, receive_depth, send_depth, retries] = numbers;
+    Settings {
+        packet,
+        receive_depth,
+        send_depth,
+        retries,
+        flow: Flow::Capacity,
+    }
+}
+
+#[test]
+fn settings_at_the_ends_of_their_ranges_are_allowed(rt: HostRuntime) -> Result<(), Fail> {
+    assert_eq!(rt; Settings::default().checked(), Ok(Settings::DEFAULT));
+    for numbers in [[128, 1, 1, 1], [65507, 256, 256, 1000]] {
+        assert_eq!(rt; settings_of(numbers).checked(), Ok(settings_of(numbers)));
+    }
+    Ok(())
+}
+
 #[test]
 fn settings_are_refused_at_the_first_field_out_of_range(rt: HostRuntime) -> Result<(), Fail> {
-    let given = Settings::default();
-    assert_eq!(rt; given.checked(), Ok(Settings::DEFAULT));
-    let least = Settings {
-        packet: 128,
-        receive_depth: 1,
-        send_depth: 1,
-        retries: 1,
-        flow: Flow::Capacity,
-    };
-    let greatest = Settings {
-        packet: 65507,
-        receive_depth: 256,
-        send_depth: 256,
-        retries: 1000,
-        flow: Flow::Loss,
-    };
-    for settings in [least, greatest] {
-        assert_eq!(rt; settings.checked(), Ok(settings));
-    }
-    for (settings, field) in [
-        (
-            Settings {
-                packet: 127,
-                retries: 0,
-                ..given
-            },
-            Field::Packet,
-        ),
-        (
-            Settings {
-                packet: 65508,
-                ..given
-            },
-            Field::Packet,
-        ),
-        (
-            Settings {
-                receive_depth: 0,
-                send_depth: 0,
-                ..given
-            },
-            Field::ReceiveDepth,
-        ),
-        (
-            Settings {
-                receive_depth: 257,
-                ..given
-            },
-            Field::ReceiveDepth,
-        ),
-        (
-            Settings {
-                send_depth: 0,
-                ..given
-            },
-            Field::SendDepth,
-        ),
-        (
-            Settings {
-                send_depth: 257,
-                retries: 1001,
-                ..given
-            },
-            Field::SendDepth,
-        ),
-        (
-            Settings {
-                retries: 0,
-                ..given
-            },
-            Field::Retries,
-        ),
-        (
-            Settings {
-                retries: 1001,
-                ..given
-            },
-            Field::Retries,
-        ),
+    for (numbers, field) in [
+        ([127, 4, 2, 0], Field::Packet),
+        ([65508, 4, 2, 20], Field::Packet),
+        ([128, 0, 0, 20], Field::ReceiveDepth),
+        ([128, 257, 2, 20], Field::ReceiveDepth),
+        ([128, 4, 0, 20], Field::SendDepth),
+        ([128, 4, 257, 1001], Field::SendDepth),
+        ([128, 4, 2, 0], Field::Retries),
+        ([128, 4, 2, 1001], Field::Retries),
     ] {
-        assert_eq!(rt; settings.checked(), Err(OutOfRange { field }));
+        assert_eq!(rt; settings_of(numbers).checked(), Err(OutOfRange { field }));
     }
     Ok(())
 }

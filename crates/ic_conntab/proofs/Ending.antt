@@ -25,7 +25,7 @@ raised_no_less (Some old) (Some top) query h = omega (arith, le-max_left top que
 
 pub top_never_falls : TopNeverFalls
 top_never_falls t u stays = no_less-itself t.top
-top_never_falls t u (begins v query keys way past live) = top_never_falls t v way
+top_never_falls t u (begins v query keys way may) = top_never_falls t v way
 top_never_falls t u (leaves v query way live) = raised_no_less t.top v.top query (top_never_falls t v way)
 
 -- ---- a key
@@ -77,11 +77,11 @@ none_either_way false = refl
 
 ends : (t u : Table) (key : ConnKey) → Becomes t u → HasEnded t key → HasEnded u key
 ends t u key stays h = h
-ends t u key (begins v query keys way new live) h =
+ends t u key (begins v query keys way may) h =
     let w : HasEnded v key = ends t v key way h in
     record {
       session = w.session;
-      not_live = get_put v.live query keys key.query ∙ ap (λ b. cond b (Some keys) (get v.live key.query)) (ne_eqb _ _ (apart v.top query key.query new w.past)) ∙ w.not_live;
+      not_live = get_put v.live query keys key.query ∙ ap (λ b. cond b (Some keys) (get v.live key.query)) (ne_eqb _ _ (apart v.top query key.query may.0 w.past)) ∙ w.not_live;
       past = w.past;
     }
 ends t u key (leaves v query way live) h =

@@ -1,11 +1,11 @@
 -- What follows of queries that begin and end.
-use Rattle.std.specs.Prelude.{◌≡◌, ◌≢◌, ℕ, ◌≤◌, false, List, position, slice_get, Option, None, Some}
+use Rattle.std.specs.Prelude.{◌≡◌, ◌≢◌, ℕ, ◌≤◌, List, position, slice_get, Option, None, Some}
 use Rattle.std.specs.List.{IsDistinct}
 use Rattle.std.specs.FinMap.{get}
 use Rattle.ic_base.specs.Keys.{key_eq}
 use Rattle.ic_base.specs.declared.keys.ConnKey.{ConnKey}
 use Rattle.ic_conntab.specs.declared.answer.Find.TheVariants.{Here, Ended}
-use Rattle.ic_conntab.specs.Table.{Table, IsLive, is_past, placed, found, begun, left}
+use Rattle.ic_conntab.specs.Table.{Table, IsLive, MayBegin, placed, found, begun, left}
 
 -- a key that is found at a place stands there among its query's connections, and is found where it stands
 abbrev pub PlaceIsItsOwn : Type 0
@@ -29,10 +29,10 @@ LeftIsEnded =
     → ((key.session ≡ t.session) → (key.query ≡ query) → found (left t query) key ≡ Ended)
     × ((key.query ≢ query) → IsLive t key.query → found (left t query) key ≡ found t key)
 
--- one table comes to be another: queries begin that aren't past nor live, and live ones are left
+-- one table comes to be another: queries begin that may, and live ones are left
 pub data Becomes (t : Table) : Table → Type 0 where
   stays : Becomes t t
-  begins : (u : Table) (query : ℕ) (keys : List ConnKey) → Becomes t u → is_past u.top query ≡ false → get u.live query ≡ None → Becomes t (begun u query keys)
+  begins : (u : Table) (query : ℕ) (keys : List ConnKey) → Becomes t u → MayBegin u query → Becomes t (begun u query keys)
   leaves : (u : Table) (query : ℕ) → Becomes t u → IsLive u query → Becomes t (left u query)
 
 -- a greatest id is no less than one before it, if there was any

@@ -32,6 +32,10 @@ abbrev pub is_past : Option ℕ → ℕ → Bool
 is_past None query = false
 is_past (Some top) query = nat_le query top
 
+-- a query that isn't live and whose id is above all that have ended
+abbrev pub MayBegin : Table → ℕ → Type 0
+MayBegin t query = (is_past t.top query ≡ false) × (get t.live query ≡ None)
+
 -- ---- what is found
 
 -- a key of a live query: at its place, from 0, or a stranger's

@@ -36,7 +36,7 @@ impl Model for ConnTable {
 }
 
 impl ConnTable {
-    ghost use Rattle.ic_conntab.specs.Table.{fresh, begun, left, found, IsLive, IsOld};
+    ghost use Rattle.ic_conntab.specs.Table.{fresh, begun, left, found, IsLive, IsOld, MayBegin};
 
     /// A table of this session, of which no query has begun. Takes room for a few queries at once.
     pub fn new(alloc: Global, session: u32) -> Result<ConnTable, AllocError>
@@ -53,7 +53,7 @@ impl ConnTable {
     /// found. Their places are counted from 0. Copies and hashes each key once.
     pub fn begin(&mut self, alloc: Global, query: u32, keys: &[ConnKey]) -> Result<(), BeginNo>
         requires distinct { IsDistinct key_eq keys.now }
-        ensures ok { OnOk result (self.new ≡ begun self.old query keys.now) }
+        ensures ok { OnOk result (MayBegin self.old query × (self.new ≡ begun self.old query keys.now)) }
         ensures old { (top : ℕ) → (result ≡ Err (Old top)) ↔ IsOld self.old query top }
         ensures twice { (result ≡ Err Twice) ↔ ((is_past self.old.top query ≡ false) × IsLive self.old query) }
         ensures err { OnErr result (self.new ≡ self.old) }
