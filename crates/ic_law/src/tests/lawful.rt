@@ -60,6 +60,22 @@ const TWO_ROWS_TAKEN: &[Step] = &[
     (Clear(2), Reply::Unclear(A2)),
 ];
 
+/// The packet of both rows: a header of sixteen words, two chunks of 15 bytes, and the end of stream.
+const FIRST_BYTES: [u8; 98] = [
+    0, 0, 0, 1, 0, 0, 0, 0, 0, 0, 0, 0, 0, 0, 0, 0, 0, 0, 0, 0, 0, 0, 0, 7, 0, 0, 0, 1, 0, 0, 0, 0,
+    0, 0, 0, 1, 0, 0, 0, 0, 255, 255, 255, 255, 0, 0, 0, 0, 0, 0, 0, 8, 0, 0, 0, 98, 0, 0, 0, 1, 0,
+    0, 0, 0, 0, 11, 0, 0, 0, 1, 1, 0, 0, 0, 0, 0, 0, 0, 10, 0, 11, 0, 0, 0, 1, 1, 0, 0, 0, 0, 0, 0,
+    0, 12, 0, 0, 0, 4,
+];
+
+#[test]
+fn the_first_packet_has_the_worked_bytes(rt: HostRuntime) -> Result<(), Fail> {
+    let datagram = Last(A, 1, BOTH).datagram(rt.alloc())?;
+    assert_eq!(rt; datagram.bytes.as_slice(), FIRST_BYTES.as_slice());
+    assert_eq!(rt; (datagram.from.number(), datagram.to.number()), (0, -1));
+    Ok(())
+}
+
 // ---- a status query behind a lost Ack
 
 const TIGHT: Settings = Settings {

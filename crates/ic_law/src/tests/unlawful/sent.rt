@@ -187,7 +187,7 @@ const LAST: &[Breach] = &[
         Point::Sent,
     ),
     (
-        "a left query that still sends",
+        "a stopped end as one that isn't clear",
         &[BEGUN, ONE, SENT, STOPPED],
         Leave(1),
         Left,
