@@ -12,10 +12,9 @@ use super::steps::{
     NotGave, NotTook, Old, Put, Reply, Step, Take, TakeFrom, Tick, Ticked, Took, Twice, histories,
     history,
 };
-use crate::{DropCause, Entry};
+use crate::DropCause;
 use ic_base::{Flow, Settings};
 use ic_header::HeaderFault;
-use std::alloc::Global;
 use std::test::Fail;
 
 const SMALL: Settings = Settings {

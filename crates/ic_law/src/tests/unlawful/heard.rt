@@ -1,10 +1,8 @@
 // A sending end: what answers that come are answered.
 use super::{Breach, FIRST, SMALL, judged};
 use crate::DropCause;
-use crate::tests::chunks::{A, A9, DOWN, LISTS_1, LISTS_1_2, X1, X2};
-use crate::tests::datagrams::{
-    Ack, Disorder, Duplicate, Form, Formed, Nak, Query, Raw, Rows, Stop,
-};
+use crate::tests::chunks::{A, A9, DOWN, LISTS_1, X1, X2};
+use crate::tests::datagrams::{Ack, Disorder, Duplicate, Form, Formed, Nak, Raw, Rows, Stop};
 use crate::tests::judge::Point;
 use crate::tests::steps::{Arrive, Begin, Begun, Dropped, Gave, Handled, Put, Step};
 use ic_header::HeaderFault;
