@@ -34,6 +34,8 @@ const TWO_ROWS_SENT: &[Step] = &[
     (Arrive(Ack(A, 1, 0)), Handled(&[])),
     (Clear(1), Cleared),
     (Leave(1), Left),
+    (Put(A, TEN), NotGave(No::Unknown(1, 1))),
+    (Finish(A), NotGave(No::Unknown(1, 1))),
     (Arrive(Ack(A, 1, 1)), Dropped(DropCause::Late, &[])),
     (Begin(3, &[(A3, true)]), Begun),
     (Put(A3, TEN), Gave(&[])),

@@ -57,14 +57,19 @@ fn is_puttable(place: &Place, bytes: &[u8]) -> bool {
         && bytes.len().saturating_add(68) <= place.settings.packet as usize
 }
 
+/// Whether a sending end that is there can be given more: a hub knows nothing of the ends of a query that it left.
+fn goes_on(key: &ConnKey, before: &[Entry]) -> bool {
+    here(key, true, before).is_none() || !is_finished(key, before)
+}
+
 /// Whether the ask meets the conditions of its call.
 pub fn allowed(place: &Place, before: &[Entry], e: &Entry) -> bool {
     match &e.ask {
         HubAsk::Begin { query, ends } => are_ends(place, *query, ends.as_slice()),
         HubAsk::Put { key, chunk } => {
-            is_puttable(place, chunk.as_slice()) && !is_finished(key, before)
+            is_puttable(place, chunk.as_slice()) && goes_on(key, before)
         }
-        HubAsk::Finish { key } => !is_finished(key, before),
+        HubAsk::Finish { key } => goes_on(key, before),
         HubAsk::Clear { query } => live_ends(*query, before).is_some(),
         _ => true,
     }
