@@ -16,3 +16,6 @@ pub use history::{
     Unclear,
 };
 pub use laws::streams_follow;
+
+#[cfg(test)]
+mod tests;
