@@ -1,5 +1,6 @@
 -- Which asks a hub may be given.
 use Rattle.std.specs.Prelude.{◌≡◌, ◌≢◌, ℕ, ◌+◌, ◌≤◌, List, ◌++◌, ◌∷◌, length, true, false, not, Contains}
+use Rattle.ic_base.specs.declared.keys.ConnKey.{ConnKey}
 use Rattle.ic_base.specs.declared.keys.ConnEnd.{ConnEnd}
 use Rattle.ic_chunk.specs.declared.chunk.ChunkKind.TheVariants.{EndOfStream}
 use Rattle.ic_chunk.specs.Chunks.{Chunk, IsChunk, spelled}
@@ -7,7 +8,7 @@ use Rattle.ic_law.specs.declared.history.HubAsk.{HubAsk}
 use Rattle.ic_law.specs.declared.history.HubAsk.TheVariants.{Begin, Put, Finish, Take, TakeFrom, Halt, Arrive, Tick, Clear, Leave}
 use Rattle.ic_law.specs.declared.history.Entry.{Entry}
 use Rattle.ic_law.specs.History.{IsFinished}
-use Rattle.ic_law.specs.Points.{Place, IsLive}
+use Rattle.ic_law.specs.Points.{Place, IsLive, IsHere}
 
 -- an end of a query that begins here: of this session and query, and at this segment on its side
 pub record IsEndHere (place : Place) (query : ℕ) (end : ConnEnd) : Type 0 where
@@ -31,11 +32,15 @@ pub record IsPuttable (place : Place) (bytes : List ℕ) : Type 0 where
   pub are : bytes ≡ spelled chunk
   pub room : length bytes + 68 ≤ place.settings.packet
 
+-- where the connection is sent on here, it isn't finished; of a query that ended nothing is asked
+abbrev pub GoesOn : List Entry → ConnKey → Type 0
+GoesOn before key = (end : ConnEnd) → IsHere end before → end.key ≡ key → end.sending ≡ true → IsFinished key before → ⊥
+
 -- the ask meets the conditions of its call: nothing is put behind the end of stream, and a query is live where it is asked whether it is clear
 abbrev pub IsAllowed : Place → List Entry → HubAsk → Type 0
 IsAllowed place before (Begin query ends) = AreEnds place query ends
-IsAllowed place before (Put key chunk) = IsPuttable place chunk × (IsFinished key before → ⊥)
-IsAllowed place before (Finish key) = IsFinished key before → ⊥
+IsAllowed place before (Put key chunk) = IsPuttable place chunk × GoesOn before key
+IsAllowed place before (Finish key) = GoesOn before key
 IsAllowed place before (Take query motion) = Unit {0}
 IsAllowed place before (TakeFrom key) = Unit {0}
 IsAllowed place before (Halt key) = Unit {0}

@@ -233,7 +233,7 @@ moved c before e t =
 abbrev pub settled : ConnKey → Settings → List Entry → List Entry → Timing → Timing
 settled c settings before now t =
     record (with_fresh c settings before now t) {
-      asked = asked_then c settings now (sent_upto c before + fresh_count c settings before now t.window) t.window t.asked
+      asked = asked_then c settings now (sent_upto c before + fresh_count c settings before now t.window) t.window t.asked;
     }
 
 -- a stopped connection keeps nothing on its way
@@ -335,7 +335,8 @@ abbrev pub query_spent : Settings → List Entry → ConnEnd → List (ConnKey �
 query_spent settings before end =
     if end.sending && spent_query settings (next_clock before) (timing_of end.key settings before).asked then (end.key, sent_upto end.key before) ∷ [] else []
 
--- of a query: the packets of its connections in their order, and then the status queries
+-- of a query: the packets of its connections in their order, by number, and then the status queries. All that is due at
+-- one tick has the same due, so this is the order in which a tick serves them.
 abbrev pub spent_of : Settings → List Entry → List ConnEnd → List (ConnKey × ℕ)
 spent_of settings before ends = flat_map (packets_spent settings before) ends ++ flat_map (query_spent settings before) ends
 
