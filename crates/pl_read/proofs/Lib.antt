@@ -1,0 +1,5 @@
+pub mod NameLemmas
+pub mod NumberLemmas
+pub mod SoFar
+pub mod ExprLemmas
+pub mod ListLemmas

@@ -1,0 +1,6 @@
+pub mod Paths
+pub mod Faults
+pub mod Members
+pub mod Values
+pub mod Exprs
+pub mod Lists
