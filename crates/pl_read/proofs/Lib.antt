@@ -3,3 +3,5 @@ pub mod NumberLemmas
 pub mod SoFar
 pub mod ExprLemmas
 pub mod ListLemmas
+pub mod NodeLemmas
+pub mod DepthLemmas

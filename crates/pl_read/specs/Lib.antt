@@ -4,3 +4,5 @@ pub mod Members
 pub mod Values
 pub mod Exprs
 pub mod Lists
+pub mod Sizes
+pub mod Nodes

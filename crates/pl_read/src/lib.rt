@@ -5,7 +5,9 @@ mod expr;
 mod fault;
 mod list;
 mod member;
+mod node;
 mod place;
+mod size;
 mod value;
 
 pub use fault::{DocFault, DocNo};

@@ -1,7 +1,8 @@
 // Objects and their members.
-ghost use Rattle.std.specs.Prelude.{◌≡◌, map, option_map};
+ghost use Rattle.std.specs.Prelude.{◌≡◌, ◌<◌, map, option_map, IfOk};
 ghost use Rattle.std.specs.List.{list_any};
 ghost use Rattle.std.specs.Str.{bytes_eq};
+ghost use Rattle.serde_json.specs.Data.{depth};
 ghost use Rattle.serde_json.specs.View.{view, members_view};
 ghost use Rattle.pl_read.specs.Paths.{path_of};
 ghost use Rattle.pl_read.specs.Faults.{Gives};
@@ -58,13 +59,16 @@ pub(crate) fn only(
 }
 
 /// The member of this name.
+#[tactic(auto, using(crate::proofs::DepthLemmas::get_is_shallower))]
 pub(crate) fn required<'v>(
     alloc: Global,
     place: Place<'_>,
     object: &'v Value,
     name: &str,
 ) -> Result<&'v Value, DocNo>
-    ensures { Gives (λ value. view value.now) result (required (path_of place.entry) name.now (view object.now)) }
+    ensures exact { Gives (λ value. view value.now) result (required (path_of place.entry) name.now (view object.now)) }
+    // It nests less deep than the object.
+    ensures shallower { IfOk result (λ value. depth (view value.now) < depth (view object.now)) }
 {
     match object.get(name) {
         Some(value) => Ok(value),

@@ -3,9 +3,11 @@ ghost use Rattle.std.specs.Prelude.{◌≡◌, ◌≤◌, IfOk};
 ghost use Rattle.serde_json.specs.View.{view, number_view, items_view};
 ghost use Rattle.pl_read.specs.Paths.{path_of};
 ghost use Rattle.pl_read.specs.Faults.{Gives};
+ghost use Rattle.pl_read.specs.Members.{needed};
 ghost use Rattle.pl_read.specs.Values as spec;
 
 use crate::fault::{DocNo, Flaw};
+use crate::member::required;
 use crate::place::Place;
 use serde_json::{Number, Value};
 use std::alloc::Global;
@@ -66,6 +68,22 @@ pub(crate) fn text_at<'v>(
         Some(text) => Ok(text),
         None => Err(place.no(alloc, Flaw::Kind)),
     }
+}
+
+/// The member of this name, a whole number from `least` to `greatest`.
+pub(crate) fn number_in(
+    alloc: Global,
+    place: Place<'_>,
+    object: &Value,
+    name: &str,
+    least: u64,
+    greatest: u64,
+) -> Result<u64, DocNo>
+    ensures exact { Gives (λ n. n) result (needed (spec.number_at least greatest) (path_of place.entry) name.now (view object.now)) }
+    ensures greatest { IfOk result (λ n. n ≤ greatest) }
+{
+    let value = required(alloc, place, object, name)?;
+    number_at(alloc, place.member(name), value, least, greatest)
 }
 
 /// A position of a column.
