@@ -5,3 +5,4 @@ pub mod ExprLemmas
 pub mod ListLemmas
 pub mod NodeLemmas
 pub mod DepthLemmas
+pub mod ValueLemmas

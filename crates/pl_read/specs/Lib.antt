@@ -6,3 +6,7 @@ pub mod Exprs
 pub mod Lists
 pub mod Sizes
 pub mod Nodes
+pub mod Settings
+pub mod Rows
+pub mod Tables
+pub mod Documents

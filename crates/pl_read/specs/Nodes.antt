@@ -25,7 +25,7 @@ use Rattle.pl_read.specs.declared.node.Head.TheVariants as head
 use Rattle.pl_read.specs.Paths.{Step, member}
 use Rattle.pl_read.specs.Faults.{refused, or_refused, ◌>>=◌}
 use Rattle.pl_read.specs.Members.{object_at, only, needed}
-use Rattle.pl_read.specs.Values.{number_at, position_at, text_at}
+use Rattle.pl_read.specs.Values.{number_at, position_at, text_at, list_at}
 use Rattle.pl_read.specs.Lists.{list_in, list_if_there, key_at, columns_at, call_at}
 use Rattle.pl_read.specs.Exprs.{expr_at}
 
@@ -165,3 +165,6 @@ within_plan path root = if nat_le (nodes_in (tree_of root)) 64 then Ok (record {
 
 abbrev pub plan_at : List Step → Data → Result Plan DocFault
 plan_at path d = node_at path d >>= within_plan path
+
+abbrev pub plans_at : List Step → Data → Result (List Plan) DocFault
+plans_at path d = list_at plan_at 0 64 path d

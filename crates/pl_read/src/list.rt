@@ -31,7 +31,7 @@ pub(crate) trait Element: Drop {
 }
 
 /// An array of so many elements, each read at its place.
-fn list_at<T: Element>(
+pub(crate) fn list_at<T: Element>(
     alloc: Global,
     place: Place<'_>,
     value: &Value,

@@ -8,7 +8,7 @@ ghost use Rattle.pl_read.specs.Nodes as spec;
 
 use crate::expr::expr_at;
 use crate::fault::{DocNo, Flaw};
-use crate::list::{list_if_there, list_in};
+use crate::list::{Element, list_at, list_if_there, list_in};
 use crate::member::{object_at, only, required};
 use crate::place::Place;
 use crate::size::{room_after_expr, room_after_node};
@@ -17,7 +17,7 @@ use ic_base::Text;
 use pl_expr::Expr;
 use pl_tree::{Columns, Keys, Node, Plan, Stage};
 use serde_json::Value;
-use sqlite_items::Boxed;
+use sqlite_items::{Boxed, Items};
 use std::alloc::Global;
 
 /// The most expressions and operands of a filter.
@@ -28,6 +28,12 @@ const MOST_NODES: u32 = 64;
 
 /// The greatest count of a limit.
 const LAST_COUNT: u64 = 9223372036854775807;
+
+/// The most plans of a document.
+const MOST_PLANS: usize = 64;
+
+/// The plans of a document.
+pub type Plans = Items<Plan>;
 
 /// What a node is, by its word, and by its stage where it is an aggregate.
 #[derive(Clone, Copy, Debug, PartialEq, Eq)]
@@ -273,7 +279,7 @@ pub(crate) fn node_at(alloc: Global, place: Place<'_>, value: &Value) -> Result<
 
 /// A plan of at most 64 nodes, which are counted once all else in it was judged.
 #[tactic(auto, using(crate::proofs::NodeLemmas::node_is))]
-pub(crate) fn plan_at(alloc: Global, place: Place<'_>, value: &Value) -> Result<Plan, DocNo>
+fn plan_at(alloc: Global, place: Place<'_>, value: &Value) -> Result<Plan, DocNo>
     ensures { Gives (λ x. x) result (spec.plan_at (path_of place.entry) (view value.now)) }
 {
     let root = node_at(alloc, place, value)?;
@@ -281,4 +287,19 @@ pub(crate) fn plan_at(alloc: Global, place: Place<'_>, value: &Value) -> Result<
         Some(_) => Ok(Plan { root }),
         None => Err(place.no(alloc, Flaw::Range)),
     }
+}
+
+impl Element for Plan {
+    ghost reading = { spec.plan_at };
+
+    fn element_at(alloc: Global, place: Place<'_>, value: &Value) -> Result<Plan, DocNo> {
+        plan_at(alloc, place, value)
+    }
+}
+
+/// At most 64 plans.
+pub(crate) fn plans_at(alloc: Global, place: Place<'_>, value: &Value) -> Result<Plans, DocNo>
+    ensures { Gives (λ x. x) result (spec.plans_at (path_of place.entry) (view value.now)) }
+{
+    list_at(alloc, place, value, 0, MOST_PLANS)
 }
