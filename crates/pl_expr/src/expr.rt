@@ -1,5 +1,6 @@
 // The tree of a predicate.
-ghost use Rattle.std.specs.Prelude.{◌≡◌, IfOk};
+ghost use Rattle.std.specs.Prelude.{◌≡◌, min, length, map, IfOk};
+ghost use Rattle.pl_expr.specs.Entries.{entries_of, in_turn};
 
 use ic_base::Text;
 use sqlite_items::{Boxed, Items};
@@ -90,6 +91,37 @@ impl Expr {
             Expr::Or(parts) => Ok(Expr::Or(copy_all(alloc, parts.as_slice())?)),
             Expr::Not(part) => Ok(Expr::Not(Boxed::new(alloc, part.get().copy(alloc)?)?)),
             Expr::IsNull(x) => Ok(Expr::IsNull(x.copy(alloc)?)),
+        }
+    }
+}
+
+#[cycle(size)]
+fn size_of_all(parts: &[Expr]) -> usize
+    ensures { result ≡ min (length (in_turn (map entries_of parts.now))) 18446744073709551615 }
+{
+    let mut size: usize = 0;
+    for part in parts {
+        size = size.saturating_add(part.size());
+    }
+    size
+}
+
+impl Expr {
+    /// How many expressions and operands it has, or the greatest number where there are more.
+    #[cycle(size)]
+    pub fn size(&self) -> usize
+        ensures { result ≡ min (length (entries_of self.now)) 18446744073709551615 }
+    {
+        match self {
+            Expr::Compare {
+                op: _,
+                left: _,
+                right: _,
+            } => 3,
+            Expr::And(parts) => size_of_all(parts.as_slice()).saturating_add(1),
+            Expr::Or(parts) => size_of_all(parts.as_slice()).saturating_add(1),
+            Expr::Not(part) => part.get().size().saturating_add(1),
+            Expr::IsNull(_) => 2,
         }
     }
 }

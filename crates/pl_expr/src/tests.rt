@@ -218,6 +218,7 @@ fn a_copy_holds_of_the_same_rows(rt: HostRuntime) -> Result<(), Fail> {
     let parts = two(rt.alloc(), Expr::IsNull(Operand::Null), same)?;
     let both = Expr::Not(Boxed::new(rt.alloc(), Expr::And(parts))?);
     let again = both.copy(rt.alloc())?;
+    assert_eq!(rt; again.size(), 7);
     for value in [Value::Int(1), Value::Null] {
         let row = row_of(rt.alloc(), value)?;
         assert_eq!(rt; truth_value(&again, &row), truth_value(&both, &row));

@@ -1,0 +1,7 @@
+use Rattle.std.proofs.Common.{◌≡◌, drop}
+use Rattle.std.specs.List.{list_any}
+use Rattle.pl_plan.specs.Tests as spec
+use Rattle.pl_plan.proofs.asks.any_call_past.Given as goal
+
+abbrev pub invariant-loop-call : goal.invariant-loop-call
+invariant-loop-call l = list_any (spec.call_past l.width) (drop l.call-index l.calls) ≡ list_any (spec.call_past l.width) l.calls

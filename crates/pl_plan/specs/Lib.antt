@@ -1,0 +1,13 @@
+pub mod Places
+pub mod Tests
+pub mod Motions
+pub mod Rules
+pub mod Soundness
+pub mod Ends
+pub mod Above
+pub mod Walking
+pub mod Layout
+pub mod Limits
+pub mod Kept
+pub mod Asking
+pub mod Noting

@@ -1,0 +1,5 @@
+pub mod Rows
+pub mod Groups
+pub mod Routing
+pub mod Streams
+pub mod Placed
