@@ -6,3 +6,7 @@ pub mod ListLemmas
 pub mod NodeLemmas
 pub mod DepthLemmas
 pub mod ValueLemmas
+pub mod Steps
+pub mod PlanLimits
+pub mod TableLimits
+pub mod DocumentLimits

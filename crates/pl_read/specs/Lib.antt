@@ -4,9 +4,10 @@ pub mod Members
 pub mod Values
 pub mod Exprs
 pub mod Lists
-pub mod Sizes
+pub mod Rooms
 pub mod Nodes
 pub mod Settings
 pub mod Rows
 pub mod Tables
 pub mod Documents
+pub mod Limits

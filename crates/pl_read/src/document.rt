@@ -1,5 +1,5 @@
 // The document whole.
-ghost use Rattle.std.specs.Prelude.{◌≡◌, codes};
+ghost use Rattle.std.specs.Prelude.{◌≡◌, codes, IfOk};
 ghost use Rattle.serde_json.specs.View.{view};
 ghost use Rattle.pl_read.specs.Paths.{path_of};
 ghost use Rattle.pl_read.specs.Faults.{Gives};
@@ -7,6 +7,7 @@ ghost use Rattle.pl_read.specs.Members.{needed};
 ghost use Rattle.pl_read.specs.Tables.{tables_at};
 ghost use Rattle.pl_read.specs.Nodes.{plans_at};
 ghost use Rattle.pl_read.specs.Documents as spec;
+ghost use Rattle.pl_read.specs.Limits.{IsDocument};
 
 use crate::fault::{DocNo, Flaw};
 use crate::member::{object_at, only, required};
@@ -82,6 +83,8 @@ fn document_at(alloc: Global, place: Place<'_>, value: &Value) -> Result<Documen
 pub fn read_document(alloc: Global, bytes: &[u8]) -> Result<Document, DocNo>
     // The document that the bytes say, or the first fault.
     ensures exact { Gives (λ x. x) result (spec.reading bytes.now) }
+    // Each number in its range, each plan and table as large as they may be, each row with a value for each column.
+    ensures limits { IfOk result IsDocument }
 {
     match Value::from_slice(alloc, bytes) {
         Ok(value) => document_at(alloc, Place::Document, &value),

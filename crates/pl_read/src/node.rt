@@ -11,7 +11,7 @@ use crate::fault::{DocNo, Flaw};
 use crate::list::{Element, list_at, list_if_there, list_in};
 use crate::member::{object_at, only, required};
 use crate::place::Place;
-use crate::size::{room_after_expr, room_after_node};
+use crate::size::room_after_node;
 use crate::value::{number_in, text_at};
 use ic_base::Text;
 use pl_expr::Expr;
@@ -21,7 +21,7 @@ use sqlite_items::{Boxed, Items};
 use std::alloc::Global;
 
 /// The most expressions and operands of a filter.
-const MOST_ENTRIES: u32 = 256;
+const MOST_ENTRIES: usize = 256;
 
 /// The most nodes of a plan.
 const MOST_NODES: u32 = 64;
@@ -187,9 +187,10 @@ fn test_at(alloc: Global, place: Place<'_>, value: &Value) -> Result<Expr, DocNo
     ensures { Gives (λ x. x) result (spec.test_at (path_of place.entry) (view value.now)) }
 {
     let test = expr_at(alloc, place, value)?;
-    match room_after_expr(&test, MOST_ENTRIES) {
-        Some(_) => Ok(test),
-        None => Err(place.no(alloc, Flaw::Range)),
+    if test.size() <= MOST_ENTRIES {
+        Ok(test)
+    } else {
+        Err(place.no(alloc, Flaw::Range))
     }
 }
 

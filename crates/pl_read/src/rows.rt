@@ -28,12 +28,7 @@ fn datum_at(alloc: Global, place: Place<'_>, value: &Value, kind: Kind) -> Resul
 }
 
 // The values of a row that has one for each column.
-fn data_at(
-    alloc: Global,
-    place: Place<'_>,
-    values: &[Value],
-    kinds: &[Kind],
-) -> Result<Row, DocNo>
+fn data_at(alloc: Global, place: Place<'_>, values: &[Value], kinds: &[Kind]) -> Result<Row, DocNo>
     requires { length values.now ≡ length kinds.now }
     ensures { Gives (λ x. x) result (spec.data_from kinds.now (path_of place.entry) 0 (items_view values.now)) }
 {
@@ -55,12 +50,7 @@ fn row_at(alloc: Global, place: Place<'_>, value: &Value, kinds: &[Kind]) -> Res
     }
 }
 
-fn rows_of(
-    alloc: Global,
-    place: Place<'_>,
-    values: &[Value],
-    kinds: &[Kind],
-) -> Result<Rows, DocNo>
+fn rows_of(alloc: Global, place: Place<'_>, values: &[Value], kinds: &[Kind]) -> Result<Rows, DocNo>
     ensures { Gives (λ x. x) result (spec.rows_from kinds.now (path_of place.entry) (items_view values.now)) }
 {
     let mut rows = Vec::with_capacity(alloc, values.len())?;

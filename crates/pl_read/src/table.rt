@@ -229,7 +229,9 @@ fn placing(key: Option<Columns>, replicated: bool) -> Placing
 fn has_name(tables: &[Table], name: &str) -> bool
     ensures { result ≡ list_any (λ table. bytes_eq table.schema.name name.now) tables.now }
 {
-    tables.iter().any(|table| table.schema.name.as_str() == name)
+    tables
+        .iter()
+        .any(|table| table.schema.name.as_str() == name)
 }
 
 // The name of a table behind these.
