@@ -1,6 +1,6 @@
 -- A member nests less deep than its object.
-use Rattle.std.proofs.Common.{◌≡◌, ℕ, ◌≤◌, ◌<◌, List, Ordering, Less, Equal, Greater, Option, Some, None, refl, ap, arith}
-use Rattle.std.specs.Prelude.{max, suc}
+use Rattle.std.proofs.Common.{◌≡◌, ℕ, ◌≤◌, ◌<◌, List, Ordering, Less, Equal, Greater, Option, Some, ap, arith}
+use Rattle.std.specs.Prelude.{max}
 use Rattle.std.specs.Cmp.Lexicographic.{slice_cmp}
 use Rattle.std.specs.Ordering.{nat_cmp, match_ordering}
 use Rattle.serde_json.specs.Data.{Data, null, boolean, number, string, array, object, Members, no_members, depth, members_depth}

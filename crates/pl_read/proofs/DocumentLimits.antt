@@ -1,18 +1,15 @@
 -- What every document that is read keeps to.
-use Rattle.std.proofs.Common.{◌≡◌, ℕ, ◌≤◌, List, [], ◌∷◌, length, map, codes, Option, Some, None, Result, Ok, Err, IfOk, refl, sym, subst, arith}
+use Rattle.std.proofs.Common.{◌≡◌, ℕ, ◌≤◌, List, [], ◌∷◌, codes, Result, Ok, Err, IfOk, subst, arith}
 use Rattle.std.specs.Prelude.{unwrap_or}
-use Rattle.serde_json.specs.Data.{Data, Members}
+use Rattle.serde_json.specs.Data.{Data}
 use Rattle.serde_json.specs.Find.{get}
 use Rattle.ic_base.specs.declared.settings.Settings.{Settings}
 use Rattle.ic_base.specs.Settings.{AreChecked, default_settings}
-use Rattle.pl_tree.specs.declared.node.Plan.{Plan}
-use Rattle.pl_read.specs.declared.table.Table.{Table}
 use Rattle.pl_read.specs.declared.document.Document.{Document}
 use Rattle.pl_read.specs.declared.fault.DocNo.{DocNo}
-use Rattle.pl_read.specs.declared.fault.DocFault.{DocFault}
 use Rattle.pl_read.specs.declared.fault.Flaw.TheVariants.{NoJson}
 use Rattle.pl_read.specs.Paths.{Step, member}
-use Rattle.pl_read.specs.Faults.{Gives, or_refused, ◌>>=◌}
+use Rattle.pl_read.specs.Faults.{Gives, or_refused}
 use Rattle.pl_read.specs.Members.{object_at, only, needed, optional}
 use Rattle.pl_read.specs.Values.{number_at}
 use Rattle.pl_read.specs.Settings.{number_or, flow_in, settings_at, settings_in}
@@ -75,10 +72,16 @@ document_keeps path d document e =
     let n = found plans_at path (codes "queries") d queries is5 (λ v r. list_length plan_at 0 64 (member (codes "queries") ∷ path) v queries r) in
     let made : Document = record { session = session; segments = segments; settings = settings; tables = tables; queries = queries } in
     subst IsDocument (same_Ok made document e7) (record {
-      least_session = s.0; greatest_session = s.1; least_segments = g.0; greatest_segments = g.1;
+      least_session = s.0;
+      greatest_session = s.1;
+      least_segments = g.0;
+      greatest_segments = g.1;
       settings = settings_in_are_checked path d settings is3;
-      table_count = t.1; tables = schemas_are_tables tables t.0; rows = rows_have_widths tables t.0;
-      query_count = n; queries = q
+      table_count = t.1;
+      tables = schemas_are_tables tables t.0;
+      rows = rows_have_widths tables t.0;
+      query_count = n;
+      queries = q;
     }))))))))
 
 reading_keeps : (bytes : List ℕ) (document : Document) → reading bytes ≡ Ok document → IsDocument document

@@ -1,5 +1,5 @@
 -- A node's members that are nodes.
-use Rattle.std.proofs.Common.{◌≡◌, ℕ, List, ◌∷◌, codes, Ordering, Less, Equal, Greater, Option, Some, None, Result, refl, sym, ap, ◌∙◌}
+use Rattle.std.proofs.Common.{◌≡◌, ℕ, List, ◌∷◌, codes, Ordering, Less, Equal, Greater, Option, Some, Result, refl, sym, ap, ◌∙◌}
 use Rattle.std.specs.Cmp.Lexicographic.{slice_cmp}
 use Rattle.std.specs.Ordering.{nat_cmp, match_ordering}
 use Rattle.serde_json.specs.Data.{Data, null, boolean, number, string, array, object, Members, no_members}

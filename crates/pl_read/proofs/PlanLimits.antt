@@ -1,5 +1,5 @@
 -- The sizes of plans that are read.
-use Rattle.std.proofs.Common.{◌≡◌, ℕ, ◌≤◌, List, [], ◌∷◌, length, codes, Bool, cond, nat_le, Ordering, Less, Equal, Greater, Option, Result, Ok, refl, sym, subst, rules}
+use Rattle.std.proofs.Common.{◌≡◌, ℕ, ◌≤◌, List, ◌∷◌, length, codes, nat_le, Ordering, Less, Equal, Greater, Option, Result, Ok, sym, subst, rules}
 use Rattle.std.specs.Prelude.{⊤}
 use Rattle.std.specs.Cmp.Lexicographic.{slice_cmp}
 use Rattle.std.specs.Ordering.{nat_cmp, match_ordering}
@@ -34,7 +34,7 @@ use Rattle.pl_read.specs.Members.{only, needed}
 use Rattle.pl_read.specs.Values.{number_at, position_at, text_at, list_at}
 use Rattle.pl_read.specs.Lists.{list_in, list_if_there, key_at, columns_at, call_at}
 use Rattle.pl_read.specs.Exprs.{expr_at}
-use Rattle.pl_read.specs.Nodes.{names_of, shape_at, within_filter, test_at, head_at, over, scan_at, shaped, node_at, child_in, within_plan, plan_at, plans_at}
+use Rattle.pl_read.specs.Nodes.{names_of, shape_at, within_filter, test_at, head_at, over, shaped, node_at, child_in, within_plan, plan_at, plans_at}
 use Rattle.pl_read.proofs.Steps.{same_Ok, came, held, found, list_length, list_all}
 
 -- ---- what a node says itself

@@ -1,10 +1,10 @@
 -- The sizes of tables that are read.
-use Rattle.std.proofs.Common.{◌≡◌, ℕ, suc, ◌+◌, ◌≤◌, ◌<◌, ◌==◌, List, [], ◌∷◌, ◌++◌, length, map, codes, Bool, true, false, not, ◌&&◌, nat_lt, eqb, cond, Option, Some, None, Result, Ok, Err, refl, sym, ap, subst, ◌∙◌, arith}
+use Rattle.std.proofs.Common.{◌≡◌, ℕ, suc, ◌+◌, ◌≤◌, ◌<◌, ◌==◌, List, [], ◌∷◌, ◌++◌, length, map, codes, Bool, true, false, not, ◌&&◌, nat_lt, eqb, cond, Option, None, Ok, Err, refl, sym, ap, subst, ◌∙◌, arith}
 use Rattle.std.specs.Prelude.{is_some}
 use Rattle.std.specs.List.{AllByRecursion, list_any}
 use Rattle.std.proofs.lemmas.Bool.{and_parts, ltb-true, eqb-true}
 use Rattle.std.proofs.lemmas.List.{length-append}
-use Rattle.serde_json.specs.Data.{Data, Items, no_items, item, Members}
+use Rattle.serde_json.specs.Data.{Data, Items, no_items, item}
 use Rattle.serde_json.specs.Events.{items_len}
 use Rattle.serde_json.specs.Find.{as_array, get}
 use Rattle.ic_row.specs.declared.value.Kind.{Kind}
@@ -12,7 +12,6 @@ use Rattle.ic_row.specs.declared.value.Value.{Value}
 use Rattle.pl_tree.specs.Columns as columns
 use Rattle.pl_tree.specs.Sizes.{IsPlaced, IsTable, AreTables}
 use Rattle.pl_read.specs.declared.table.Table.{Table}
-use Rattle.pl_read.specs.declared.fault.DocFault.{DocFault}
 use Rattle.pl_read.specs.declared.fault.Flaw.TheVariants as flaw
 use Rattle.pl_read.specs.Paths.{Step, member, index}
 use Rattle.pl_read.specs.Faults.{fault_at, or_refused, ◌>>=◌}

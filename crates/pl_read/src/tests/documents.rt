@@ -91,145 +91,77 @@ fn a_table_is_keyed_dealt_or_everywhere(rt: HostRuntime) -> Result<(), Fail> {
     Ok(())
 }
 
-const SCAN: &str = r#"{"op":"scan","table":"é"}"#;
+/// A plan as it is written, and as it is read.
+const NODES: &str = r#"
+{"op":"project","columns":[],"child":{"op":"scan","table":"é"}} => Project { columns: Items { items: [] }, child: Boxed { inner: Scan { table: Text { text: "é" } } } }
+{"op":"project","columns":[65535,0],"child":{"op":"scan","table":"é"}} => Project { columns: Items { items: [65535, 0] }, child: Boxed { inner: Scan { table: Text { text: "é" } } } }
+{"op":"limit","count":9223372036854775807,"child":{"op":"scan","table":"é"}} => Limit { count: 9223372036854775807, child: Boxed { inner: Scan { table: Text { text: "é" } } } }
+{"op":"sort","keys":[[1,"desc"],[0,"asc"]],"child":{"op":"scan","table":"é"}} => Sort { keys: Items { items: [Key { column: 1, down: true }, Key { column: 0, down: false }] }, child: Boxed { inner: Scan { table: Text { text: "é" } } } }
+{"child":{"op":"scan","table":"é"},"op":"gather"} => Gather { order: None, child: Boxed { inner: Scan { table: Text { text: "é" } } } }
+{"op":"gather","order":[[0,"asc"]],"child":{"op":"scan","table":"é"}} => Gather { order: Some(Items { items: [Key { column: 0, down: false }] }), child: Boxed { inner: Scan { table: Text { text: "é" } } } }
+{"op":"redistribute","keys":[3,2],"child":{"op":"scan","table":"é"}} => Redistribute { keys: Items { items: [3, 2] }, child: Boxed { inner: Scan { table: Text { text: "é" } } } }
+{"op":"broadcast","child":{"op":"scan","table":"é"}} => Broadcast { child: Boxed { inner: Scan { table: Text { text: "é" } } } }
+{"op":"agg","stage":"single","group":[4],"calls":[["count"],["count",1]],"child":{"op":"scan","table":"é"}} => Agg { stage: Single { group: Items { items: [4] }, calls: Items { items: [Count, CountOf(1)] } }, child: Boxed { inner: Scan { table: Text { text: "é" } } } }
+{"op":"agg","stage":"partial","group":[],"calls":[["sum",0],["min",1],["max",2]],"child":{"op":"scan","table":"é"}} => Agg { stage: Partial { group: Items { items: [] }, calls: Items { items: [Sum(0), Min(1), Max(2)] } }, child: Boxed { inner: Scan { table: Text { text: "é" } } } }
+{"op":"agg","stage":"final","child":{"op":"scan","table":"é"}} => Agg { stage: Final, child: Boxed { inner: Scan { table: Text { text: "é" } } } }
+{"op":"join","left":{"op":"scan","table":""},"on":[[0,1]],"right":{"op":"scan","table":"é"}} => Join { left: Boxed { inner: Scan { table: Text { text: "" } } }, right: Boxed { inner: Scan { table: Text { text: "é" } } }, pairs: Items { items: [Pair { left: 0, right: 1 }] } }
+"#;
+
+/// The plans of a document with this one.
+fn plans_of(alloc: Global, plan: &str) -> Result<String, DocNo> {
+    let text = with_plan(alloc, plan)?;
+    let document = read_document(alloc, text.as_bytes())?;
+    Ok(format!(in alloc; "{:?}", document.queries.as_slice())?)
+}
 
 #[test]
 fn each_node_is_read(rt: HostRuntime) -> Result<(), Fail> {
-    let scan = r#"Scan { table: Text { text: "é" } }"#;
-    for (front, back, wanted, end) in [
-        (
-            r#"{"op":"project","columns":[],"child":"#,
-            "}",
-            "Project { columns: Items { items: [] }, child: Boxed { inner: ",
-            " } }",
-        ),
-        (
-            r#"{"op":"project","columns":[65535,0],"child":"#,
-            "}",
-            "Project { columns: Items { items: [65535, 0] }, child: Boxed { inner: ",
-            " } }",
-        ),
-        (
-            r#"{"op":"limit","count":9223372036854775807,"child":"#,
-            "}",
-            "Limit { count: 9223372036854775807, child: Boxed { inner: ",
-            " } }",
-        ),
-        (
-            r#"{"op":"sort","keys":[[1,"desc"],[0,"asc"]],"child":"#,
-            "}",
-            "Sort { keys: Items { items: [Key { column: 1, down: true }, Key { column: 0, down: false }] }, child: Boxed { inner: ",
-            " } }",
-        ),
-        (
-            r#"{"child":"#,
-            r#","op":"gather"}"#,
-            "Gather { order: None, child: Boxed { inner: ",
-            " } }",
-        ),
-        (
-            r#"{"op":"gather","order":[[0,"asc"]],"child":"#,
-            "}",
-            "Gather { order: Some(Items { items: [Key { column: 0, down: false }] }), child: Boxed { inner: ",
-            " } }",
-        ),
-        (
-            r#"{"op":"redistribute","keys":[3,2],"child":"#,
-            "}",
-            "Redistribute { keys: Items { items: [3, 2] }, child: Boxed { inner: ",
-            " } }",
-        ),
-        (
-            r#"{"op":"broadcast","child":"#,
-            "}",
-            "Broadcast { child: Boxed { inner: ",
-            " } }",
-        ),
-        (
-            r#"{"op":"agg","stage":"single","group":[4],"calls":[["count"],["count",1]],"child":"#,
-            "}",
-            "Agg { stage: Single { group: Items { items: [4] }, calls: Items { items: [Count, CountOf(1)] } }, child: Boxed { inner: ",
-            " } }",
-        ),
-        (
-            r#"{"op":"agg","stage":"partial","group":[],"calls":[["sum",0],["min",1],["max",2]],"child":"#,
-            "}",
-            "Agg { stage: Partial { group: Items { items: [] }, calls: Items { items: [Sum(0), Min(1), Max(2)] } }, child: Boxed { inner: ",
-            " } }",
-        ),
-        (
-            r#"{"op":"agg","stage":"final","child":"#,
-            "}",
-            "Agg { stage: Final, child: Boxed { inner: ",
-            " } }",
-        ),
-        (
-            r#"{"op":"join","left":{"op":"scan","table":""},"on":[[0,1]],"right":"#,
-            "}",
-            r#"Join { left: Boxed { inner: Scan { table: Text { text: "" } } }, right: Boxed { inner: "#,
-            " }, pairs: Items { items: [Pair { left: 0, right: 1 }] } }",
-        ),
-    ] {
-        let plan = format!(in rt.alloc(); "{front}{SCAN}{back}")?;
-        let text = with_plan(rt.alloc(), plan.as_str())?;
-        let document = read_document(rt.alloc(), text.as_bytes())?;
-        let read = format!(in rt.alloc(); "{:?}", document.queries.as_slice())?;
-        let wanted = format!(in rt.alloc(); "[Plan {{ root: {wanted}{scan}{end} }}]")?;
-        assert_eq!(rt; read.as_str(), wanted.as_str(), "{plan}");
+    for line in NODES.lines() {
+        let Some((plan, wanted)) = line.split_once(" => ") else {
+            assert!(rt; line.is_empty(), "{line}");
+            continue;
+        };
+        let wanted = format!(in rt.alloc(); "[Plan {{ root: {wanted} }}]")?;
+        assert_eq!(rt;
+            plans_of(rt.alloc(), plan)?.as_str(),
+            wanted.as_str(),
+            "{plan}"
+        );
     }
     Ok(())
 }
 
+/// A predicate as it is written, and as it is read.
+const PREDICATES: &str = r#"
+["=",{"col":0},-9223372036854775808] => Compare { op: Eq, left: Col(0), right: Int(-9223372036854775808) }
+["<>",{"col":65535},"é"] => Compare { op: Ne, left: Col(65535), right: Chars(Text { text: "é" }) }
+["<",null,9223372036854775807] => Compare { op: Lt, left: Null, right: Int(9223372036854775807) }
+["<=",1,2] => Compare { op: Le, left: Int(1), right: Int(2) }
+[">",1,2] => Compare { op: Gt, left: Int(1), right: Int(2) }
+[">=",1,null] => Compare { op: Ge, left: Int(1), right: Null }
+["and",["null",{"col":0}]] => And(Items { items: [IsNull(Col(0))] })
+["or",["null",null],["null",0],["null",""]] => Or(Items { items: [IsNull(Null), IsNull(Int(0)), IsNull(Chars(Text { text: "" }))] })
+["not",["null",{"col":1}]] => Not(Boxed { inner: IsNull(Col(1)) })
+"#;
+
 #[test]
 fn each_predicate_is_read(rt: HostRuntime) -> Result<(), Fail> {
-    for (test, wanted) in [
-        (
-            r#"["=",{"col":0},-9223372036854775808]"#,
-            "Compare { op: Eq, left: Col(0), right: Int(-9223372036854775808) }",
-        ),
-        (
-            r#"["<>",{"col":65535},"é"]"#,
-            r#"Compare { op: Ne, left: Col(65535), right: Chars(Text { text: "é" }) }"#,
-        ),
-        (
-            r#"["<",null,9223372036854775807]"#,
-            "Compare { op: Lt, left: Null, right: Int(9223372036854775807) }",
-        ),
-        (
-            r#"["<=",1,2]"#,
-            "Compare { op: Le, left: Int(1), right: Int(2) }",
-        ),
-        (
-            r#"[">",1,2]"#,
-            "Compare { op: Gt, left: Int(1), right: Int(2) }",
-        ),
-        (
-            r#"[">=",1,null]"#,
-            "Compare { op: Ge, left: Int(1), right: Null }",
-        ),
-        (
-            r#"["and",["null",{"col":0}]]"#,
-            "And(Items { items: [IsNull(Col(0))] })",
-        ),
-        (
-            r#"["or",["null",null],["null",0],["null",""]]"#,
-            r#"Or(Items { items: [IsNull(Null), IsNull(Int(0)), IsNull(Chars(Text { text: "" }))] })"#,
-        ),
-        (
-            r#"["not",["null",{"col":1}]]"#,
-            "Not(Boxed { inner: IsNull(Col(1)) })",
-        ),
-    ] {
+    for line in PREDICATES.lines() {
+        let Some((test, wanted)) = line.split_once(" => ") else {
+            assert!(rt; line.is_empty(), "{line}");
+            continue;
+        };
         let plan = format!(in rt.alloc();
-            "{{\"op\":\"filter\",\"where\":{test},\"child\":{SCAN}}}"
+            "{{\"op\":\"filter\",\"where\":{test},\"child\":{{\"op\":\"scan\",\"table\":\"é\"}}}}"
         )?;
-        let text = with_plan(rt.alloc(), plan.as_str())?;
-        let document = read_document(rt.alloc(), text.as_bytes())?;
-        let read = format!(in rt.alloc(); "{:?}", document.queries.as_slice())?;
         let wanted = format!(in rt.alloc();
             "[Plan {{ root: Filter {{ test: {wanted}, child: Boxed {{ inner: Scan {{ table: Text {{ text: \"é\" }} }} }} }} }}]"
         )?;
-        assert_eq!(rt; read.as_str(), wanted.as_str(), "{test}");
+        assert_eq!(rt;
+            plans_of(rt.alloc(), plan.as_str())?.as_str(),
+            wanted.as_str(),
+            "{test}"
+        );
     }
     Ok(())
 }

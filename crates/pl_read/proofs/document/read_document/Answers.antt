@@ -1,4 +1,4 @@
-use Rattle.std.proofs.Common.{rules, ◌≡◌, ℕ, List, [], None, Some, Result, ap, subst, sym}
+use Rattle.std.proofs.Common.{rules, ◌≡◌, ℕ, List, [], None, Some, Result, subst, sym}
 use Rattle.serde_json.specs.View.{view}
 use Rattle.pl_read.specs.declared.fault.Flaw.TheVariants.{NoJson}
 use Rattle.pl_read.specs.declared.place.Place.{the_lemmas}
