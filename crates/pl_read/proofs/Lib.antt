@@ -1,0 +1,12 @@
+pub mod NameLemmas
+pub mod NumberLemmas
+pub mod SoFar
+pub mod ExprLemmas
+pub mod ListLemmas
+pub mod NodeLemmas
+pub mod DepthLemmas
+pub mod ValueLemmas
+pub mod Steps
+pub mod PlanLimits
+pub mod TableLimits
+pub mod DocumentLimits

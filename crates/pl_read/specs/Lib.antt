@@ -1,0 +1,13 @@
+pub mod Paths
+pub mod Faults
+pub mod Members
+pub mod Values
+pub mod Exprs
+pub mod Lists
+pub mod Rooms
+pub mod Nodes
+pub mod Settings
+pub mod Rows
+pub mod Tables
+pub mod Documents
+pub mod Limits

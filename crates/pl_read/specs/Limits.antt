@@ -1,0 +1,24 @@
+-- What every document that is read keeps to.
+use Rattle.std.specs.Prelude.{◌≡◌, ◌≤◌, length, map}
+use Rattle.std.specs.List.{AllByRecursion}
+use Rattle.ic_base.specs.Settings.{AreChecked}
+use Rattle.pl_tree.specs.Trees.{tree_in}
+use Rattle.pl_tree.specs.Sizes.{IsPlan, AreTables}
+use Rattle.pl_read.specs.declared.table.Table.{Table}
+use Rattle.pl_read.specs.declared.document.Document.{Document}
+
+-- each row has one value for each column
+abbrev pub HasWidths : Table → Type 0
+HasWidths table = AllByRecursion (λ row. length row ≡ length table.schema.kinds) table.rows
+
+pub record IsDocument (document : Document) : Type 0 where
+  pub least_session : 1 ≤ document.session
+  pub greatest_session : document.session ≤ 2147483647
+  pub least_segments : 1 ≤ document.segments
+  pub greatest_segments : document.segments ≤ 64
+  pub settings : AreChecked document.settings
+  pub table_count : length document.tables ≤ 64
+  pub tables : AreTables (map (λ table. table.schema) document.tables)
+  pub rows : AllByRecursion HasWidths document.tables
+  pub query_count : length document.queries ≤ 64
+  pub queries : AllByRecursion (λ plan. IsPlan (tree_in plan)) document.queries
