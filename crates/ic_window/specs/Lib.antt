@@ -1,0 +1,4 @@
+pub mod Window
+pub mod Waiting
+pub mod State
+pub mod Laws
