@@ -1,0 +1,4 @@
+pub mod Numbers
+pub mod Ring
+pub mod Views
+pub mod Room

@@ -1,0 +1,23 @@
+//! The packets of one receiving connection that came and aren't consumed yet, with no header, no clock and no answer
+//! to the peer.
+//!
+//! A receiver makes one [`RecvRing`] for each connection, which takes all its room at once. Each packet that comes is
+//! given to `store`, which says whether it is kept. `run_end`, `greatest` and `missing` are what the receiver tells the
+//! sender. `front` looks at the next packet in order, and `consume` lets it go.
+//!
+//! Below: std alone. Above: whoever answers for a receiving connection.
+#![tactic(auto)]
+
+mod answer;
+mod kept;
+mod ring;
+mod sealed;
+mod seqs;
+
+pub use answer::Store;
+pub use ring::RecvRing;
+pub use sealed::Sealed;
+pub use seqs::Seqs;
+
+#[cfg(test)]
+mod tests;
