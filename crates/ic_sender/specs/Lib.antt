@@ -1,0 +1,4 @@
+pub mod Sending
+pub mod Calls
+pub mod Entries
+pub mod Standing
