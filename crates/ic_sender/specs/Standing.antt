@@ -76,6 +76,7 @@ pub record Mirrors (s : Sending) (held : List Item) (packets : List Sealed) (t :
   pub numbers : map number_of s.kept ≡ numbers_behind s.acked (s.sealed - s.acked)
   pub kept : (n : ℕ) → s.acked < n → n ≤ s.sealed → row_of (kept_at s.kept n) ≡ row_at (slice_get packets (n - 1)) n
   pub up : s.acked ≤ s.sent
+  pub taken : s.consumed ≤ s.acked
   pub flights : map (λ (f : Flight). f.seq) s.flights ≡ numbers_behind s.acked (s.sent - s.acked)
   pub timers : Alike (Waits s.end packets s.conn held clock) s.flights t.timers
   pub alone : (y : Item) → Contains held y → y.conn ≡ s.conn → (x : Timer) × Contains t.timers x × (y ≡ item_of s.conn x)

@@ -1,0 +1,4 @@
+mod Lists
+mod Sent
+mod Carrying
+mod Emitting
