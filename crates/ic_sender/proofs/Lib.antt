@@ -2,3 +2,5 @@ mod Lists
 mod Sent
 mod Carrying
 mod Emitting
+mod Passing
+mod Putting
