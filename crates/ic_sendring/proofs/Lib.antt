@@ -1,0 +1,3 @@
+pub mod Numbers
+mod Seen
+mod Sound
