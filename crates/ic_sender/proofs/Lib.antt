@@ -3,4 +3,5 @@ mod Sent
 mod Carrying
 mod Emitting
 mod Passing
+mod Going
 mod Putting

@@ -1,5 +1,5 @@
 -- A connection on which a chunk, or the end of stream, was put stands for the entry.
-use Rattle.std.proofs.Common.{◌≡◌, ◌≢◌, ℕ, ◌+◌, ◌-◌, ◌<◌, ◌≤◌, ◌^◌, List, [], ◌∷◌, ◌++◌, length, map, Bool, true, false, cond, ◌&&◌, ◌||◌, Option, Some, None, Result, Ok, Err, refl, ap, sym, ◌∙◌, subst, arith, inl, inr, ◌⊎◌, append-nil, append_assoc, slice_get}
+use Rattle.std.proofs.Common.{◌≡◌, ◌≢◌, ℕ, ◌+◌, ◌-◌, ◌<◌, ◌≤◌, ◌^◌, List, [], ◌∷◌, ◌++◌, length, map, Bool, true, false, cond, ◌&&◌, ◌||◌, ◌==◌, Option, Some, None, Result, Ok, Err, refl, ap, sym, ◌∙◌, subst, arith, inl, inr, ◌⊎◌, append-nil, append_assoc, slice_get}
 use Rattle.std.specs.Prelude.{nat_le}
 use Rattle.std.specs.List.{flat_map, Contains, AllByRecursion}
 use Rattle.std.proofs.lemmas.Bool.{leb-true, leb-false, cases_lt}
@@ -103,3 +103,184 @@ mirrors_sealed s held packets t clock payload last opened finished old le small 
         let here = find_append (λ p. number_of p == n) s.kept (record { seq = s.sealed + 1; last = last; payload = payload } ∷ []) found.0 found.1 in
         ap row_of (here ∙ sym found.1) ∙ old.kept n low high
         ∙ sym (ap (λ o. row_at o n) (get_more packets (record { payload = payload; last = last } ∷ []) (n - 1) (omega (arith, low, high, old.sealed))))
+
+-- ---- what a put adds
+
+chunk_is : (c : ConnKey) (chunk : List ℕ) (ds : List Datagram) → puts c (record { ask = Put c chunk; reply = Gave (Ok ds) }) ≡ chunk ∷ []
+chunk_is c chunk ds = ap (λ b. cond (b && true) (chunk ∷ []) []) (key_eq-same c)
+
+chunks_with : (c : ConnKey) (h : List Entry) (chunk : List ℕ) (ds : List Datagram) → chunks_put_of c (h ++ record { ask = Put c chunk; reply = Gave (Ok ds) } ∷ []) ≡ chunks_put_of c h ++ chunk ∷ []
+chunks_with c h chunk ds = chunks_put_of-push c h (record { ask = Put c chunk; reply = Gave (Ok ds) }) ∙ ap (λ l. chunks_put_of c h ++ l) (chunk_is c chunk ds)
+
+-- a chunk fits in the law as it fits here
+pub fits_same : (s : Sending) (h : List Entry) (chunk : List ℕ) → s.finished ≡ false → Reads s h → fits s.settings.packet (filling_of s.end.key s.settings h).opened chunk ≡ fits_opened s chunk
+fits_same s h chunk on reads = ap (λ l. nat_le (length l + length chunk + 68) s.settings.packet) (reads.opened on)
+
+next_filling : Filling → List ℕ → Bool → Filling
+next_filling f chunk b = cond b (record { full = f.full; opened = f.opened ++ chunk ∷ [] }) (record { full = f.full ++ f.opened ∷ []; opened = chunk ∷ [] })
+
+filling_with : (s : Sending) (h : List Entry) (chunk : List ℕ) (ds : List Datagram) → s.finished ≡ false → Reads s h
+    → filling_of s.end.key s.settings (h ++ record { ask = Put s.end.key chunk; reply = Gave (Ok ds) } ∷ []) ≡ next_filling (filling_of s.end.key s.settings h) chunk (fits_opened s chunk)
+unfolding next_filling
+filling_with s h chunk ds on reads =
+    let c = s.end.key in
+    ap (filling s.settings.packet) (chunks_with c h chunk ds) ∙ filling-push s.settings.packet (chunks_put_of c h) chunk
+    ∙ ap (next_filling (filling_of c s.settings h) chunk) (fits_same s h chunk on reads)
+
+packets_are : (s : Sending) (h : List Entry) → s.finished ≡ false → Reads s h → sealed_of s.end.key s.settings h ≡ map plain (filling_of s.end.key s.settings h).full
+packets_are s h on reads = ap (sealed (filling_of s.end.key s.settings h)) (reads.finished ∙ on)
+
+packets_with : (s : Sending) (h : List Entry) (chunk : List ℕ) (ds : List Datagram) → s.finished ≡ false → Reads s h
+    → sealed_of s.end.key s.settings (h ++ record { ask = Put s.end.key chunk; reply = Gave (Ok ds) } ∷ []) ≡ map plain (next_filling (filling_of s.end.key s.settings h) chunk (fits_opened s chunk)).full
+packets_with s h chunk ds on reads =
+    let c = s.end.key in
+    let e : Entry = record { ask = Put c chunk; reply = Gave (Ok ds) } in
+    ap (λ b. sealed (filling_of c s.settings (h ++ e ∷ [])) b) (finished_stays c h e refl ∙ reads.finished ∙ on) ∙ ap (λ (f : Filling). map plain f.full) (filling_with s h chunk ds on reads)
+
+-- ---- ready
+
+length-both : (xs ys : List ℕ) → length (xs ++ ys) ≡ length xs + length ys
+length-both [] ys = omega arith
+length-both (x ∷ xs) ys = let i = length-both xs ys in omega (arith, i)
+
+end_length : length (spelled end_of_stream) ≡ 4
+unfolding spelled
+end_length = refl
+
+ready_fit : (s : Sending) (held : List Item) (h : List Entry) (chunk : List ℕ) (ds : List Datagram) → s.stopped ≡ false → s.finished ≡ false → 4 ≤ length chunk → fits_opened s chunk ≡ true → Reflects s held h
+    → Ready (record s { opened = s.opened ++ chunk }) held h (record { ask = Put s.end.key chunk; reply = Gave (Ok ds) })
+unfolding next_filling
+ready_fit s held h chunk ds running on least room old =
+    let c = s.end.key in
+    let e : Entry = record { ask = Put c chunk; reply = Gave (Ok ds) } in
+    let now = h ++ e ∷ [] in
+    let runs = old.runs running in
+    let f = filling_of c s.settings h in
+    let fill : filling_of c s.settings now ≡ record { full = f.full; opened = f.opened ++ chunk ∷ [] } = filling_with s h chunk ds on runs.reads ∙ ap (next_filling f chunk) room in
+    let packets : sealed_of c s.settings now ≡ sealed_of c s.settings h =
+    packets_with s h chunk ds on runs.reads ∙ ap (λ b. map plain (next_filling f chunk b).full) room ∙ sym (packets_are s h on runs.reads) in
+    let timing : moved c h e (timing_of c s.settings h) ≡ timing_of c s.settings h = moved_not c h e (timing_of c s.settings h) refl refl in
+    let clock : clock_of now ≡ clock_of h = clock_stays h e refl in
+    let o = runs.mirrors in
+    let size = leb-true (length s.opened + length chunk + 68) s.settings.packet room in
+    let len : length (s.opened ++ chunk) ≡ length s.opened + length chunk = length-both s.opened chunk in
+    record {
+      names = old.names;
+      checked = old.checked;
+      running = running;
+      runs = stopped_stays c h e refl ∙ old.stopped ∙ running;
+      reads = record {
+        finished = finished_stays c h e refl ∙ runs.reads.finished;
+        opened = λ still. ap (λ (g : Filling). together g.opened) fill ∙ together-push f.opened chunk ∙ ap (λ l. l ++ chunk) (runs.reads.opened on);
+        least = inr (omega (arith, len, least));
+        most = omega (arith, len, size);
+        run = run_stays c h e refl ∙ runs.reads.run;
+        consumed = consumed_stays c h e refl ∙ runs.reads.consumed;
+      };
+      mirrors = subst (λ l. Mirrors (record s { opened = s.opened ++ chunk }) held l (moved c h e (timing_of c s.settings h)) (clock_of now)) (sym packets)
+        (subst (λ t. Mirrors (record s { opened = s.opened ++ chunk }) held (sealed_of c s.settings h) t (clock_of now)) (sym timing)
+        (subst (λ n. Mirrors (record s { opened = s.opened ++ chunk }) held (sealed_of c s.settings h) (timing_of c s.settings h) n) (sym clock)
+        (record {
+          sealed = o.sealed;
+          small = o.small;
+          sizes = o.sizes;
+          numbers = o.numbers;
+          kept = o.kept;
+          up = o.up;
+          taken = o.taken;
+          flights = o.flights;
+          timers = o.timers;
+          alone = o.alone;
+          window = o.window;
+          sound = o.sound;
+          asked = o.asked;
+          asked_soon = o.asked_soon;
+        })));
+      sent = subst (λ l. SentUpto l (rows_emitted_of c h) s.sent) (sym packets) old.sent;
+      made = old.made;
+    }
+
+ready_seal : (s : Sending) (held : List Item) (h : List Entry) (chunk : List ℕ) (ds : List Datagram) → s.stopped ≡ false → s.finished ≡ false → 4 ≤ length chunk → length chunk + 68 ≤ s.settings.packet
+    → s.sealed + 1 < 2 ^ 32 → fits_opened s chunk ≡ false → Reflects s held h
+    → Ready (record (sealing s.opened false s) { opened = chunk }) held h (record { ask = Put s.end.key chunk; reply = Gave (Ok ds) })
+unfolding next_filling
+ready_seal s held h chunk ds running on least most small room old =
+    let c = s.end.key in
+    let e : Entry = record { ask = Put c chunk; reply = Gave (Ok ds) } in
+    let now = h ++ e ∷ [] in
+    let runs = old.runs running in
+    let f = filling_of c s.settings h in
+    let one : Sealed = record { payload = s.opened; last = false } in
+    let m : Sending = record (sealing s.opened false s) { opened = chunk } in
+    let fill : filling_of c s.settings now ≡ record { full = f.full ++ f.opened ∷ []; opened = chunk ∷ [] } = filling_with s h chunk ds on runs.reads ∙ ap (next_filling f chunk) room in
+    let packets : sealed_of c s.settings now ≡ sealed_of c s.settings h ++ one ∷ [] =
+    packets_with s h chunk ds on runs.reads ∙ ap (λ b. map plain (next_filling f chunk b).full) room ∙ map-append plain f.full (f.opened ∷ [])
+    ∙ ap (λ l. l ++ plain f.opened ∷ []) (sym (packets_are s h on runs.reads)) ∙ ap (λ y. sealed_of c s.settings h ++ record { payload = y; last = false } ∷ []) (runs.reads.opened on) in
+    let timing : moved c h e (timing_of c s.settings h) ≡ timing_of c s.settings h = moved_not c h e (timing_of c s.settings h) refl refl in
+    let clock : clock_of now ≡ clock_of h = clock_stays h e refl in
+    let big = leb-false (length s.opened + length chunk + 68) s.settings.packet room in
+    let four : 4 ≤ length s.opened = elim runs.reads.least [ inl none ↦ absurd (let len : length s.opened ≡ 0 = ap length none in omega (arith, big, most, len)) | inr some_ ↦ some_ ] in
+    let size : IsPayload s.settings.packet one = (four, omega (arith, runs.reads.most)) in
+    record {
+      names = old.names;
+      checked = old.checked;
+      running = running;
+      runs = stopped_stays c h e refl ∙ old.stopped ∙ running;
+      reads = record {
+        finished = finished_stays c h e refl ∙ runs.reads.finished;
+        opened = λ still. ap (λ (g : Filling). together g.opened) fill ∙ append-nil chunk;
+        least = inr least;
+        most = most;
+        run = run_stays c h e refl ∙ runs.reads.run;
+        consumed = consumed_stays c h e refl ∙ runs.reads.consumed;
+      };
+      mirrors = subst (λ l. Mirrors m held l (moved c h e (timing_of c s.settings h)) (clock_of now)) (sym packets)
+        (subst (λ t. Mirrors m held (sealed_of c s.settings h ++ one ∷ []) t (clock_of now)) (sym timing)
+        (subst (λ n. Mirrors m held (sealed_of c s.settings h ++ one ∷ []) (timing_of c s.settings h) n) (sym clock)
+        (mirrors_sealed s held (sealed_of c s.settings h) (timing_of c s.settings h) (clock_of h) s.opened false chunk s.finished runs.mirrors old.sent.within small size)));
+      sent = subst (λ l. SentUpto l (rows_emitted_of c h) s.sent) (sym packets) (sent_grow (sealed_of c s.settings h) (one ∷ []) (rows_emitted_of c h) s.sent old.sent);
+      made = old.made;
+    }
+
+ready_end : (s : Sending) (held : List Item) (h : List Entry) (ds : List Datagram) → s.stopped ≡ false → s.finished ≡ false → s.sealed + 1 < 2 ^ 32 → Reflects s held h
+    → Ready (ending s) held h (record { ask = Finish s.end.key; reply = Gave (Ok ds) })
+ready_end s held h ds running on small old =
+    let c = s.end.key in
+    let e : Entry = record { ask = Finish c; reply = Gave (Ok ds) } in
+    let now = h ++ e ∷ [] in
+    let runs = old.runs running in
+    let f = filling_of c s.settings h in
+    let one : Sealed = record { payload = s.opened ++ spelled end_of_stream; last = true } in
+    let m : Sending = ending s in
+    let ends : finished_of c now ≡ true = finished_of-push c h e ∙ ap (λ b. finished_of c h || (b && true)) (key_eq-same c) ∙ or_true (finished_of c h) in
+    let packets : sealed_of c s.settings now ≡ sealed_of c s.settings h ++ one ∷ [] =
+    ap (λ l. sealed (filling s.settings.packet l) (finished_of c now)) (chunks_stay c h e refl) ∙ ap (sealed f) ends
+    ∙ ap (λ l. l ++ final f.opened ∷ []) (sym (packets_are s h on runs.reads)) ∙ ap (λ y. sealed_of c s.settings h ++ record { payload = y ++ spelled end_of_stream; last = true } ∷ []) (runs.reads.opened on) in
+    let timing : moved c h e (timing_of c s.settings h) ≡ timing_of c s.settings h = moved_not c h e (timing_of c s.settings h) refl refl in
+    let clock : clock_of now ≡ clock_of h = clock_stays h e refl in
+    let len : length (s.opened ++ spelled end_of_stream) ≡ length s.opened + 4 = length-both s.opened (spelled end_of_stream) ∙ ap (λ n. length s.opened + n) end_length in
+    let size : IsPayload s.settings.packet one = (omega (arith, len), omega (arith, len, runs.reads.most)) in
+    record {
+      names = old.names;
+      checked = old.checked;
+      running = running;
+      runs = stopped_stays c h e refl ∙ old.stopped ∙ running;
+      reads = record {
+        finished = ends;
+        opened = λ still. absurd (cc);
+        least = runs.reads.least;
+        most = runs.reads.most;
+        run = run_stays c h e refl ∙ runs.reads.run;
+        consumed = consumed_stays c h e refl ∙ runs.reads.consumed;
+      };
+      mirrors = subst (λ l. Mirrors m held l (moved c h e (timing_of c s.settings h)) (clock_of now)) (sym packets)
+        (subst (λ t. Mirrors m held (sealed_of c s.settings h ++ one ∷ []) t (clock_of now)) (sym timing)
+        (subst (λ n. Mirrors m held (sealed_of c s.settings h ++ one ∷ []) (timing_of c s.settings h) n) (sym clock)
+        (mirrors_sealed s held (sealed_of c s.settings h) (timing_of c s.settings h) (clock_of h) (s.opened ++ spelled end_of_stream) true s.opened true runs.mirrors old.sent.within small size)));
+      sent = subst (λ l. SentUpto l (rows_emitted_of c h) s.sent) (sym packets) (sent_grow (sealed_of c s.settings h) (one ∷ []) (rows_emitted_of c h) s.sent old.sent);
+      made = old.made;
+    }
+  where
+    or_true : (b : Bool) → (b || true) ≡ true
+    or_true true = refl
+    or_true false = refl
