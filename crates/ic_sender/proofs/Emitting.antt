@@ -288,7 +288,8 @@ mirrors_after m held packets t clock mirrors le =
         )
       ];
       window = refl;
-      sound = mirrors.sound;
+      depth = mirrors.depth;
+      least = mirrors.least;
       asked = refl;
       asked_soon = asked_soon (nat_lt 0 (capacity s)) (nat_le s.sent s.acked && nat_lt s.sent s.sealed) clock m.window m.asked mirrors.asked_soon;
     }

@@ -200,3 +200,11 @@ find_filter seq q (y ∷ xs) n pass = by (q (seq y)) refl (find_filter seq q xs 
         → find (λ z. seq z == n) (cond b (y ∷ filter (λ z. q (seq z)) xs) (filter (λ z. q (seq z)) xs)) ≡ cond (seq y == n) (Some y) (find (λ z. seq z == n) xs)
     by true e h = ap (λ o. cond (seq y == n) (Some y) o) h
     by false e h = h ∙ absent (seq y == n) refl e
+
+pub length-map : {A B : Type 0} (f : A → B) (xs : List A) → length (map f xs) ≡ length xs
+length-map f [] = refl
+length-map f (x ∷ xs) = ap suc (length-map f xs)
+
+pub length-behind : (a k : ℕ) → length (numbers_behind a k) ≡ k
+length-behind a zero = refl
+length-behind a (suc k) = ap suc (length-behind (a + 1) k)

@@ -10,7 +10,6 @@ use Rattle.ic_base.specs.Settings.{AreChecked}
 use Rattle.ic_chunk.specs.Assembly.{together}
 use Rattle.ic_expire.specs.declared.item.Item.{Item}
 use Rattle.ic_expire.specs.Queue.{held_of}
-use Rattle.ic_window.specs.State.{IsWindow}
 use Rattle.ic_law.specs.declared.history.Entry.{Entry}
 use Rattle.ic_law.specs.Packets.{RowPacket, IsSegment, row_datagram}
 use Rattle.ic_law.specs.History.{emitted_of, rows_in, rows_emitted_of, number_of, finished_of, stopped_of, run_heard, consumed_heard, IsStopped}
@@ -81,7 +80,8 @@ pub record Mirrors (s : Sending) (held : List Item) (packets : List Sealed) (t :
   pub timers : Alike (Waits s.end packets s.conn held clock) s.flights t.timers
   pub alone : (y : Item) → Contains held y → y.conn ≡ s.conn → (x : Timer) × Contains t.timers x × (y ≡ item_of s.conn x)
   pub window : t.window ≡ s.window
-  pub sound : IsWindow s.window
+  pub depth : 1 ≤ s.window.depth
+  pub least : 256 ≤ s.window.window
   pub asked : t.asked ≡ s.asked
   pub asked_soon : (a : Asked) → s.asked ≡ Some a → IsSoon clock a.due
 
