@@ -5,3 +5,5 @@ mod Emitting
 mod Passing
 mod Going
 mod Putting
+mod Pairs
+mod Hearing
