@@ -129,7 +129,7 @@ timer_among ts t at = list_any-has (λ (x : Timer). x.seq == t.seq) ts t at (sam
 -- ---- what is freed, named and listed
 
 -- what an answer makes of a timing, with the numbers before and after it
-plain : (run before clock : ℕ) → Timing → Packet → List ℕ → Timing
+pub plain : (run before clock : ℕ) → Timing → Packet → List ℕ → Timing
 plain run before clock t p lists =
     let w = cond ((run - before) == 0) t.window (sample_in clock (timer_of run t.timers) (grown (run - before) t.window)) in
     let listed = filter (stands_among (filter (λ (x : Timer). nat_lt run x.seq) t.timers)) lists in
@@ -139,7 +139,7 @@ plain run before clock t p lists =
       asked = option_map (asked_later clock w) t.asked;
     }
 
-heard_is : (c : ConnKey) (h now : List Entry) (t : Timing) (p : Packet) → timing_heard c h now t p ≡ plain (run_heard c now) (run_heard c h) (clock_of now) t p (listed_by p.head.flags p)
+pub heard_is : (c : ConnKey) (h now : List Entry) (t : Timing) (p : Packet) → timing_heard c h now t p ≡ plain (run_heard c now) (run_heard c h) (clock_of now) t p (listed_by p.head.flags p)
 unfolding plain
 heard_is c h now t p = refl
 
@@ -171,7 +171,7 @@ not_le a b lt = elim (cases_Bool (nat_le b a)) [ inl t ↦ absurd (omega (arith,
 still_waits : (conn run : ℕ) (held : List Item) (t : Timer) → run < t.seq → Contains held (item_of conn t) → Contains (without (is_upto conn run) held) (item_of conn t)
 still_waits conn run held t lt at = (rest_holds held (is_upto conn run) (item_of conn t)).1 (at, ap (λ b. is_of conn (item_of conn t) && b) (not_le run t.seq lt) ∙ and_false (is_of conn (item_of conn t)))
 
-kept_pairs : (s : Sending) (held : List Item) (packets : List Sealed) (t : Timing) (clock run : ℕ) → Mirrors s held packets t clock
+pub kept_pairs : (s : Sending) (held : List Item) (packets : List Sealed) (t : Timing) (clock run : ℕ) → Mirrors s held packets t clock
     → Alike (Waits s.end packets s.conn held clock) (filter (λ (f : Flight). nat_lt run f.seq) s.flights) (filter (λ (x : Timer). nat_lt run x.seq) t.timers)
 kept_pairs s held packets t clock run old =
     alike_filter (Waits s.end packets s.conn held clock) (λ (f : Flight). nat_lt run f.seq) (λ (x : Timer). nat_lt run x.seq) s.flights t.timers (λ f x w. ap (nat_lt run) (sym w.seq)) old.timers
@@ -214,7 +214,7 @@ item_same conn listed p x = one (names_its_number p.head.flags && (x.seq == p.he
     two true y = refl
     two false y = refl
 
-mirrors_heard : (s : Sending) (held : List Item) (packets : List Sealed) (t : Timing) (clock : ℕ) (p : Packet) (a : Answer) → IsAnswerOf p a → run_with a s ≤ s.sent → max s.consumed a.consumed ≤ run_with a s → s.sent ≤ length packets
+pub mirrors_heard : (s : Sending) (held : List Item) (packets : List Sealed) (t : Timing) (clock : ℕ) (p : Packet) (a : Answer) → IsAnswerOf p a → run_with a s ≤ s.sent → max s.consumed a.consumed ≤ run_with a s → s.sent ≤ length packets
     → Mirrors s held packets t clock → Mirrors (hearing clock a s) (without (is_upto s.conn (run_with a s)) held) packets (plain (run_with a s) s.acked clock t p a.lists) clock
 unfolding plain
 mirrors_heard s held packets t clock p a is up taken le old =

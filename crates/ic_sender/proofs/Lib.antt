@@ -7,3 +7,4 @@ mod Going
 mod Putting
 mod Pairs
 mod Hearing
+mod Answering
