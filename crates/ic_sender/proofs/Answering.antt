@@ -377,7 +377,7 @@ stop_stands s held left now seq extra h e is_now is old =
     let off : stopped_of c (h ++ x ∷ []) ≡ true =
     stopped_of-push c h x ∙ ap (λ l. stopped_of c h || list_any is_stop l) one ∙ ap (λ f. stopped_of c h || (stop_flags f || false)) is.flags_are ∙ or_true (stopped_of c h) in
     let passes : PassesStopped s h x = record { puts_none = refl; finishes_none = refl; rows = refl; queries = refl } in
-    let reflects = reflects_stopped s (halting s) held left h x refl refl refl refl off passes old.reflects in
+    let reflects = reflects_stopped s (halting s) held left h x refl refl refl refl refl refl off passes old.reflects in
     let stands = keeps_law (halting s) left h x old.law reflects (refuses_heard s.settings s.end h d p (Came Handled []) is.reads (λ kept. stop_answer s held h p is.flags_are old.reflects)) (stopped_due s h x off (inl refl) passes) in
     subst (λ (y : Entry). Stands (halting s) left (h ++ y ∷ [])) (sym (shown_as s Stop seq extra [] (Ok []) e is)) stands
   where

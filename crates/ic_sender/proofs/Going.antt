@@ -85,7 +85,7 @@ stays_running s held h e running nothing still refuses old =
 pub stays_stopped : (s : Sending) (held : List Item) (h : List Entry) (e : Entry) → s.stopped ≡ true → PassesStopped s h e → Refuses s.settings s.end h e → Stands s held h → Stands s held (h ++ e ∷ [])
 stays_stopped s held h e off passes refuses old =
     let now_off : stopped_of s.end.key (h ++ e ∷ []) ≡ true = off_still s h e (old.reflects.stopped ∙ off) in
-    keeps_law s held h e old.law (reflects_stopped s s held held h e refl refl refl off now_off passes old.reflects) refuses (stopped_due s h e now_off (inr (old.reflects.still off)) passes)
+    keeps_law s held h e old.law (reflects_stopped s s held held h e refl refl refl off (old.reflects.still off).flights (old.reflects.still off).query now_off passes old.reflects) refuses (stopped_due s h e now_off (inr (old.reflects.still off)) passes)
   where
     off_still : (s : Sending) (h : List Entry) (e : Entry) → stopped_of s.end.key h ≡ true → stopped_of s.end.key (h ++ e ∷ []) ≡ true
     off_still s h e off = stopped_of-push s.end.key h e ∙ ap (λ b. b || list_any is_stop (hears s.end.key e)) off

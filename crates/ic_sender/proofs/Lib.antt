@@ -8,3 +8,5 @@ mod Putting
 mod Pairs
 mod Hearing
 mod Answering
+mod Dues
+mod Ticking

@@ -193,11 +193,11 @@ emits_nothing s h e nothing still = record {
 
 -- ---- stopped
 
-timing_stopped : (c : ConnKey) (settings : Settings) (h : List Entry) (e : Entry) → stopped_of c (h ++ e ∷ []) ≡ true → IsStill (timing_of c settings (h ++ e ∷ []))
-timing_stopped c settings h e off =
+timing_stopped : (m : Sending) (c : ConnKey) (settings : Settings) (h : List Entry) (e : Entry) → m.flights ≡ [] → m.asked ≡ None → stopped_of c (h ++ e ∷ []) ≡ true → IsStill m (timing_of c settings (h ++ e ∷ []))
+timing_stopped m c settings h e flights query off =
     let now : timing_of c settings (h ++ e ∷ []) ≡ record (timing_of c settings h) { timers = []; asked = None } =
     timing_of-push c settings h e ∙ ap (λ b. cond b (record (timing_of c settings h) { timers = []; asked = None }) (settled c settings h (h ++ e ∷ []) (moved c h e (timing_of c settings h)))) off in
-    record { timers = ap (λ (t : Timing). t.timers) now; asked = ap (λ (t : Timing). t.asked) now }
+    record { flights = flights; query = query; timers = ap (λ (t : Timing). t.timers) now; asked = ap (λ (t : Timing). t.asked) now }
 
 -- a stopped connection stays so, whatever it hears, and at every tick
 pub record PassesStopped (s : Sending) (h : List Entry) (e : Entry) : Type 0 where
@@ -207,9 +207,9 @@ pub record PassesStopped (s : Sending) (h : List Entry) (e : Entry) : Type 0 whe
   pub queries : flat_map (queries_in s.end.key) (emits e) ≡ []
 
 -- what is stopped after an entry that emits nothing is what the history says of it
-pub reflects_stopped : (s m : Sending) (held left : List Item) (h : List Entry) (e : Entry) → m.end ≡ s.end → m.settings ≡ s.settings → m.sent ≡ s.sent → m.stopped ≡ true → stopped_of s.end.key (h ++ e ∷ []) ≡ true
+pub reflects_stopped : (s m : Sending) (held left : List Item) (h : List Entry) (e : Entry) → m.end ≡ s.end → m.settings ≡ s.settings → m.sent ≡ s.sent → m.stopped ≡ true → m.flights ≡ [] → m.asked ≡ None → stopped_of s.end.key (h ++ e ∷ []) ≡ true
     → PassesStopped s h e → Reflects s held h → Reflects m left (h ++ e ∷ [])
-reflects_stopped s m held left h e end settings sent off now_off passes old =
+reflects_stopped s m held left h e end settings sent off flights query now_off passes old =
     let c = s.end.key in
     let now = h ++ e ∷ [] in
     let packets : sealed_of c s.settings now ≡ sealed_of c s.settings h = sealed_stays c s.settings h e passes.puts_none passes.finishes_none in
@@ -229,12 +229,12 @@ reflects_stopped s m held left h e end settings sent off now_off passes old =
         is ∙ ap (λ (x : ConnEnd). row_datagram x p) (sym end);
       stopped = ap (λ (x : ConnEnd). stopped_of x.key now) end ∙ now_off ∙ sym off;
       runs = λ on. absurd (let bad : true ≡ false = sym off ∙ on in cc);
-      still = λ is_off. subst (λ (x : ConnEnd). IsStill (timing_of x.key m.settings now)) (sym end)
-        (subst (λ x. IsStill (timing_of c x now)) (sym settings) (timing_stopped c s.settings h e now_off));
+      still = λ is_off. subst (λ (x : ConnEnd). IsStill m (timing_of x.key m.settings now)) (sym end)
+        (subst (λ x. IsStill m (timing_of c x now)) (sym settings) (timing_stopped m c s.settings h e flights query now_off));
     }
 
 -- and emits what the law wants: nothing
-pub stopped_due : (s : Sending) (h : List Entry) (e : Entry) → stopped_of s.end.key (h ++ e ∷ []) ≡ true → (ticks_by e.reply ≡ 0) ⊎ IsStill (timing_of s.end.key s.settings h) → PassesStopped s h e → EmitsDue s.settings s.end h e
+pub stopped_due : (s : Sending) (h : List Entry) (e : Entry) → stopped_of s.end.key (h ++ e ∷ []) ≡ true → (ticks_by e.reply ≡ 0) ⊎ IsStill s (timing_of s.end.key s.settings h) → PassesStopped s h e → EmitsDue s.settings s.end h e
 stopped_due s h e off quiet passes =
     let c = s.end.key in
     record {
@@ -245,7 +245,7 @@ stopped_due s h e off quiet passes =
       unspent = λ one. unspent quiet one;
     }
   where
-    none : (ticks_by e.reply ≡ 0) ⊎ IsStill (timing_of s.end.key s.settings h) → queries_then s.end.key s.settings h e ≡ []
+    none : (ticks_by e.reply ≡ 0) ⊎ IsStill s (timing_of s.end.key s.settings h) → queries_then s.end.key s.settings h e ≡ []
     none (inl still) = queries_not s.end.key s.settings h e still
     none (inr still) = ap (λ a. cond (ticks_by e.reply == 0) [] (cond (query_due (clock_of (h ++ e ∷ [])) a) (sent_upto s.end.key h ∷ []) [])) still.asked ∙ both (ticks_by e.reply == 0)
       where
@@ -253,7 +253,7 @@ stopped_due s h e off quiet passes =
         both true = refl
         both false = refl
 
-    unspent : (ticks_by e.reply ≡ 0) ⊎ IsStill (timing_of s.end.key s.settings h) → ticks_by e.reply ≡ 1 → NoneSpent s.settings s.end.key h
+    unspent : (ticks_by e.reply ≡ 0) ⊎ IsStill s (timing_of s.end.key s.settings h) → ticks_by e.reply ≡ 1 → NoneSpent s.settings s.end.key h
     unspent (inl still) one = absurd (let bad : 0 ≡ 1 = sym still ∙ one in omega (arith, bad))
     unspent (inr still) one =
         let clock = min last_tick (ticks_of h + 1) in

@@ -98,7 +98,9 @@ pub record Runs (s : Sending) (held : List Item) (h : List Entry) : Type 0 where
 -- ---- whether it runs or is stopped
 
 -- nothing is on its way
-pub record IsStill (t : Timing) : Type 0 where
+pub record IsStill (s : Sending) (t : Timing) : Type 0 where
+  pub flights : s.flights ≡ []
+  pub query : s.asked ≡ None
   pub timers : t.timers ≡ []
   pub asked : t.asked ≡ None
 
@@ -109,7 +111,7 @@ pub record Reflects (s : Sending) (held : List Item) (h : List Entry) : Type 0 w
   pub made : (d : Datagram) (p : RowPacket) → Contains (emitted_of h) d → rows_in s.end.key d ≡ p ∷ [] → d ≡ row_datagram s.end p
   pub stopped : stopped_of s.end.key h ≡ s.stopped
   pub runs : s.stopped ≡ false → Runs s held h
-  pub still : s.stopped ≡ true → IsStill (timing_of s.end.key s.settings h)
+  pub still : s.stopped ≡ true → IsStill s (timing_of s.end.key s.settings h)
 
 -- the points of a sending end, of one entry against the entries before it
 pub record KeepsSending (settings : Settings) (end : ConnEnd) (before : List Entry) (e : Entry) : Type 0 where
