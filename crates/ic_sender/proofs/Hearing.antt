@@ -123,7 +123,7 @@ list_any-has p (y ∷ xs) x at pass =
     or_true false = refl
 
 -- the timer of a pair is among the timers
-timer_among : (ts : List Timer) (t : Timer) → Contains ts t → stands_among ts t.seq ≡ true
+pub timer_among : (ts : List Timer) (t : Timer) → Contains ts t → stands_among ts t.seq ≡ true
 timer_among ts t at = list_any-has (λ (x : Timer). x.seq == t.seq) ts t at (same_number t.seq)
 
 -- ---- what is freed, named and listed

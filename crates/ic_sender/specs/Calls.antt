@@ -100,13 +100,13 @@ abbrev pub is_unanswered : ℕ → ℕ → Option Asked → Bool
 is_unanswered retries now None = false
 is_unanswered retries now (Some a) = nat_le a.due now && (a.tries == retries)
 
--- the status query that goes out
+abbrev pub queries_when : Sending → Bool → List Datagram
+queries_when s true = query_datagram s.end s.sent ∷ []
+queries_when s false = []
+
+-- the status query that goes out, behind the greatest number emitted
 abbrev pub queries_next : ℕ → Sending → List Datagram
-queries_next now s = queries_when (query_due now s.asked)
-  where
-    queries_when : Bool → List Datagram
-    queries_when true = query_datagram s.end s.sent ∷ []
-    queries_when false = []
+queries_next now s = queries_when s (query_due now s.asked)
 
 -- the status query that is due, if one is; or it has no resending left
 pub data Queries (s : Sending) (now : ℕ) (result : Result (List Datagram) SendNo) : Type 0 where
