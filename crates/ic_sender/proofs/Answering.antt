@@ -199,15 +199,15 @@ hears_stand s q now stray a result after left h d p heard is_now reads key judge
     by (Hears.Unheard off is_result same_s same_q) =
         back_to (Came Handled []) (ap came_of is_result) same_s same_q
         (stays_stopped s q.held h (record { ask = Arrive d; reply = Came Handled [] }) off (record { puts_none = refl; finishes_none = refl; rows = refl; queries = refl })
-        (refuses_heard s.settings s.end h d p (Came Handled []) reads (λ kept. Unheard (old.reflects.stopped ∙ off) refl)) old)
+        (λ here. refuses_heard s.settings s.end h d p (Came Handled []) reads (λ kept. Unheard (old.reflects.stopped ∙ off) refl)) old)
     by (Hears.Strayed running is_stray is_result same_s same_q) =
         back_to (Came (Dropped cause.Stray) []) (ap came_of is_result) same_s same_q
         (stays s q.held h (record { ask = Arrive d; reply = Came (Dropped cause.Stray) [] }) (nothing_came s.end.key d (Came (Dropped cause.Stray) []) refl refl) refl
-        (refuses_heard s.settings s.end h d p (Came (Dropped cause.Stray) []) reads
+        (λ here. refuses_heard s.settings s.end h d p (Came (Dropped cause.Stray) []) reads
         (λ kept. Strayed (runs_still s q.held h old.reflects running) (stray_law s q.held h p old.reflects (judged.stray_there is_stray)) refl)) old)
     by (Hears.HeardWithout is_result same_s same_q) =
         back_to Memory (ap came_of is_result) same_s same_q
-        (stays s q.held h (record { ask = Arrive d; reply = Memory }) (nothing_came s.end.key d Memory refl refl) refl (refuses_heard s.settings s.end h d p Memory reads (λ kept. absurd (kept refl))) old)
+        (stays s q.held h (record { ask = Arrive d; reply = Memory }) (nothing_came s.end.key d Memory refl refl) refl (λ here. refuses_heard s.settings s.end h d p Memory reads (λ kept. absurd (kept refl))) old)
     by (Hears.Heard running fine is_result is_after is_left) =
         let c = s.end.key in
         let run = judged.run fine in
@@ -235,7 +235,7 @@ hears_stand s q now stray a result after left h d p heard is_now reads key judge
         let refuses = refuses_heard s.settings s.end h d p (Came Handled ds) reads
         (λ kept. Heard (runs_still s q.held h old.reflects running) (λ is_stray. fine (judged.stray_here (law_stray s q.held h p old.reflects is_stray))) ds refl) in
         let stands : Stands (emitting now m) (waits_next now m held) (h ++ e ∷ []) =
-        stands_out m held h e again now (clock_stays h e refl ∙ is_now) old.law ready within (again_is s h d p a ds reads key judged.is run_now) (goes_out m held h e again ready within refl all) refuses in
+        stands_out m held h e again now (clock_stays h e refl ∙ is_now) old.law ready within (again_is s h d p a ds reads key judged.is run_now) (goes_out m held h e again ready within refl all) (λ here. refuses) in
         subst (λ r. Stands after left.held (h ++ record { ask = Arrive d; reply = came_of r } ∷ [])) (sym is_result)
         (subst (λ (x : Sending). Stands x left.held (h ++ e ∷ [])) (sym is_after) (subst (λ (x : Queue). Stands (emitting now m) x.held (h ++ e ∷ [])) (sym is_left) stands))
 
@@ -378,7 +378,7 @@ stop_stands s held left now seq extra h e is_now is old =
     stopped_of-push c h x ∙ ap (λ l. stopped_of c h || list_any is_stop l) one ∙ ap (λ f. stopped_of c h || (stop_flags f || false)) is.flags_are ∙ or_true (stopped_of c h) in
     let passes : PassesStopped s h x = record { puts_none = refl; finishes_none = refl; rows = refl; queries = refl } in
     let reflects = reflects_stopped s (halting s) held left h x refl refl refl refl refl refl off passes old.reflects in
-    let stands = keeps_law (halting s) left h x old.law reflects (refuses_heard s.settings s.end h d p (Came Handled []) is.reads (λ kept. stop_answer s held h p is.flags_are old.reflects)) (stopped_due s h x off (inl refl) passes) in
+    let stands = keeps_law (halting s) left h x old.law reflects (λ here. refuses_heard s.settings s.end h d p (Came Handled []) is.reads (λ kept. stop_answer s held h p is.flags_are old.reflects)) (stopped_due s h x off (inl refl) passes) in
     subst (λ (y : Entry). Stands (halting s) left (h ++ y ∷ [])) (sym (shown_as s Stop seq extra [] (Ok []) e is)) stands
   where
     or_true : (b : Bool) → (b || true) ≡ true

@@ -10,7 +10,7 @@ use Rattle.ic_law.specs.declared.history.Entry.{Entry}
 use Rattle.ic_law.specs.Packets.{RowPacket, row_datagram}
 use Rattle.ic_law.specs.History.{emits, rows_in, hears, is_stop, stopped_of}
 use Rattle.ic_law.specs.Filling.{Sealed, sealed_of}
-use Rattle.ic_law.specs.Points.{Every}
+use Rattle.ic_law.specs.Points.{Every, IsHere}
 use Rattle.ic_law.specs.Sending.{Refuses}
 use Rattle.ic_law.specs.Emission.{Timing, timing_of, moved, clock_of, rows_at, numbers_behind, again_numbers, ticks_by, queries_in}
 use Rattle.ic_law.proofs.Readings.{stopped_of-push}
@@ -61,7 +61,7 @@ goes_out m held h e again ready old still are =
 -- the connection stands for it
 pub stands_out : (m : Sending) (held : List Item) (h : List Entry) (e : Entry) (again : List ℕ) (now : ℕ) → clock_of (h ++ e ∷ []) ≡ now → Every (KeepsSending m.settings m.end) h → Ready m held h e
     → ((n : ℕ) → Contains again n → (1 ≤ n) × (n ≤ m.sent)) → again ≡ again_numbers m.end.key h e (timing_of m.end.key m.settings h)
-    → EmitsRows m (rows_at (sealed_of m.end.key m.settings (h ++ e ∷ [])) again ++ rows_next m) h e → Refuses m.settings m.end h e → Stands (emitting now m) (waits_next now m held) (h ++ e ∷ [])
+    → EmitsRows m (rows_at (sealed_of m.end.key m.settings (h ++ e ∷ [])) again ++ rows_next m) h e → (IsHere m.end h → Refuses m.settings m.end h e) → Stands (emitting now m) (waits_next now m held) (h ++ e ∷ [])
 stands_out m held h e again now is_now law ready old is rows refuses =
     let clock = clock_of (h ++ e ∷ []) in
     let reflects = emits_on m held h e again ready old rows.rows_are rows.made in
@@ -69,7 +69,7 @@ stands_out m held h e again now is_now law ready old is rows refuses =
     subst (λ n. Stands (emitting n m) (waits_next n m held) (h ++ e ∷ [])) is_now (keeps_law (emitting clock m) (waits_next clock m held) h e law reflects refuses due)
 
 -- an entry that adds nothing, while the connection runs
-stays_running : (s : Sending) (held : List Item) (h : List Entry) (e : Entry) → s.stopped ≡ false → IsNothingOf s.end.key e → ticks_by e.reply ≡ 0 → Refuses s.settings s.end h e → Stands s held h → Stands s held (h ++ e ∷ [])
+stays_running : (s : Sending) (held : List Item) (h : List Entry) (e : Entry) → s.stopped ≡ false → IsNothingOf s.end.key e → ticks_by e.reply ≡ 0 → (IsHere s.end h → Refuses s.settings s.end h e) → Stands s held h → Stands s held (h ++ e ∷ [])
 stays_running s held h e running nothing still refuses old =
     let clock = clock_of (h ++ e ∷ []) in
     let settled = (old.reflects.runs running).settled in
@@ -82,7 +82,7 @@ stays_running s held h e running nothing still refuses old =
     none n at = omega (arith, at.1)
 
 -- an entry that neither puts nor emits anything, once the connection is stopped
-pub stays_stopped : (s : Sending) (held : List Item) (h : List Entry) (e : Entry) → s.stopped ≡ true → PassesStopped s h e → Refuses s.settings s.end h e → Stands s held h → Stands s held (h ++ e ∷ [])
+pub stays_stopped : (s : Sending) (held : List Item) (h : List Entry) (e : Entry) → s.stopped ≡ true → PassesStopped s h e → (IsHere s.end h → Refuses s.settings s.end h e) → Stands s held h → Stands s held (h ++ e ∷ [])
 stays_stopped s held h e off passes refuses old =
     let now_off : stopped_of s.end.key (h ++ e ∷ []) ≡ true = off_still s h e (old.reflects.stopped ∙ off) in
     keeps_law s held h e old.law (reflects_stopped s s held held h e refl refl refl off (old.reflects.still off).flights (old.reflects.still off).query now_off passes old.reflects) refuses (stopped_due s h e now_off (inr (old.reflects.still off)) passes)
@@ -91,7 +91,7 @@ stays_stopped s held h e off passes refuses old =
     off_still s h e off = stopped_of-push s.end.key h e ∙ ap (λ b. b || list_any is_stop (hears s.end.key e)) off
 
 -- an entry that adds nothing
-pub stays : (s : Sending) (held : List Item) (h : List Entry) (e : Entry) → IsNothingOf s.end.key e → ticks_by e.reply ≡ 0 → Refuses s.settings s.end h e → Stands s held h → Stands s held (h ++ e ∷ [])
+pub stays : (s : Sending) (held : List Item) (h : List Entry) (e : Entry) → IsNothingOf s.end.key e → ticks_by e.reply ≡ 0 → (IsHere s.end h → Refuses s.settings s.end h e) → Stands s held h → Stands s held (h ++ e ∷ [])
 stays s held h e nothing still refuses old =
     elim (cases_Bool s.stopped) [
       | inl off ↦ stays_stopped s held h e off (record { puts_none = nothing.puts_none; finishes_none = nothing.finishes_none; rows = nothing.rows; queries = nothing.queries }) refuses old

@@ -10,3 +10,5 @@ mod Hearing
 mod Answering
 mod Dues
 mod Ticking
+mod Beginning
+mod Knowing

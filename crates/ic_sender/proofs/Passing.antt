@@ -16,7 +16,7 @@ use Rattle.ic_law.specs.declared.history.HubReply.{HubReply}
 use Rattle.ic_law.specs.Packets.{Packet, RowPacket, packet_of, row_datagram, query_datagram}
 use Rattle.ic_law.specs.History.{emits, emitted_of, rows_in, rows_emitted_of, number_of, sent_upto, puts, chunks_put_of, finishes, finished_of, hears, heard_of, stopped_of, run_heard, consumed_heard, run_told, consumed_told, greatest, is_stop}
 use Rattle.ic_law.specs.Filling.{Sealed, filling, filling_of, sealed, sealed_of}
-use Rattle.ic_law.specs.Points.{Every, SameAgain, Sends, SentUpto}
+use Rattle.ic_law.specs.Points.{Every, SameAgain, Sends, SentUpto, IsHere}
 use Rattle.ic_law.specs.Sending.{Refuses}
 use Rattle.ic_law.specs.Emission.{Timer, Asked, Timing, timing_of, next_timing, settled, timing_ticked, emitted_numbers, has_no_try, heard_then, moved, clock_of, wait_in, last_tick, ticks_by, ticks_of, rows_at, numbers_behind, rows_then, again_numbers, listed_then, due_numbers, queries_in, queries_then, query_due, spent_timers, spent_query, NoneSpent, EmitsDue}
 use Rattle.ic_law.proofs.Lists.{Contains-none, flat_map-Contains, Contains-head}
@@ -48,9 +48,10 @@ same_packet packets rows k p q sent at_p at_q same =
     row : ℕ → List ℕ → Bool → RowPacket
     row n payload last = record { seq = n; payload = payload; last = last }
 
-pub keeps_law : (s : Sending) (held : List Item) (h : List Entry) (e : Entry) → Every (KeepsSending s.settings s.end) h → Reflects s held (h ++ e ∷ []) → Refuses s.settings s.end h e → EmitsDue s.settings s.end h e
+-- whatever holds only where the end is there
+pub keeps_when : (s : Sending) (held : List Item) (h : List Entry) (e : Entry) → Every (KeepsSending s.settings s.end) h → Reflects s held (h ++ e ∷ []) → (IsHere s.end h → Refuses s.settings s.end h e) → (IsHere s.end h → EmitsDue s.settings s.end h e)
     → Stands s held (h ++ e ∷ [])
-keeps_law s held h e law reflects refuses emits_due =
+keeps_when s held h e law reflects refuses emits_due =
     let c = s.end.key in
     let now = h ++ e ∷ [] in
     let same : SameAgain c now = (λ d other p q at_d at_o reads_d reads_o numbers.
@@ -65,9 +66,13 @@ keeps_law s held h e law reflects refuses emits_due =
       fills = fills_by s.settings.packet (chunks_put_of c now) (finished_of c now) (finished_of c now ≡ true) (λ is. is);
     } in
     record {
-      law = every_push (KeepsSending s.settings s.end) h e law (record { same = same; sent = sends; refuses = λ here. refuses; emits = λ here. emits_due });
+      law = every_push (KeepsSending s.settings s.end) h e law (record { same = same; sent = sends; refuses = refuses; emits = emits_due });
       reflects = reflects;
     }
+
+pub keeps_law : (s : Sending) (held : List Item) (h : List Entry) (e : Entry) → Every (KeepsSending s.settings s.end) h → Reflects s held (h ++ e ∷ []) → (IsHere s.end h → Refuses s.settings s.end h e) → EmitsDue s.settings s.end h e
+    → Stands s held (h ++ e ∷ [])
+keeps_law s held h e law reflects refuses emits_due = keeps_when s held h e law reflects refuses (λ here. emits_due)
 
 -- ---- an entry that adds nothing
 

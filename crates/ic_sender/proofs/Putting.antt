@@ -392,7 +392,7 @@ gives s m held h ask now end settings is_now old ready none refuses =
     let law : Every (KeepsSending m.settings m.end) h = subst (λ x. Every (KeepsSending x m.end) h) (sym settings) (subst (λ (x : ConnEnd). Every (KeepsSending s.settings x) h) (sym end) old.law) in
     let due : Refuses m.settings m.end h e = subst (λ x. Refuses x m.end h e) (sym settings) (subst (λ (x : ConnEnd). Refuses s.settings x h e) (sym end) refuses) in
     stands_out m held h e [] now (clock_stays h e refl ∙ is_now) law ready (none_again m.sent) (sym (again_not m.end.key h e (timing_of m.end.key m.settings h) refl none))
-    (goes_out m held h e [] ready (none_again m.sent) refl refl) due
+    (goes_out m held h e [] ready (none_again m.sent) refl refl) (λ here. due)
 
 pub puts_stand : (s : Sending) (q : Queue) (now : ℕ) (chunk : List ℕ) (result : Result (List Datagram) SendNo) (after : Sending) (left : Queue) → s.finished ≡ false → 4 ≤ length chunk → length chunk + 68 ≤ s.settings.packet
     → Puts s q now (NeedsPacket s chunk) (adding chunk s) result after left → StandsOn now s q.held after left.held (IsPutting s.end.key chunk result)
@@ -410,7 +410,7 @@ puts_stand s q now chunk result after left on least most gave h e is_now is old 
         subst (λ r. Stands after left.held (h ++ record { ask = Put s.end.key chunk; reply = r } ∷ [])) (sym same)
         (subst (λ (x : Sending). Stands x left.held (h ++ record { ask = Put s.end.key chunk; reply = reply } ∷ [])) (sym same_s)
         (subst (λ (x : Queue). Stands s x.held (h ++ record { ask = Put s.end.key chunk; reply = reply } ∷ [])) (sym same_q)
-        (stays s q.held h (record { ask = Put s.end.key chunk; reply = reply }) (nothing_put s.end.key chunk reply ungiven none) still (refuses_put s.settings s.end h chunk reply answers) old)))
+        (stays s q.held h (record { ask = Put s.end.key chunk; reply = reply }) (nothing_put s.end.key chunk reply ungiven none) still (λ here. refuses_put s.settings s.end h chunk reply answers) old)))
 
     unfit : s.stopped ≡ false → NeedsPacket s chunk → Fits s.settings s.end.key h chunk → ⊥
     unfit running need fits_it = let bad : true ≡ false = sym fits_it ∙ fits_same s h chunk on (old.reflects.runs running).reads ∙ need in cc
@@ -455,7 +455,7 @@ finish_stands s q now result after left on gave h e is_now is old =
         subst (λ r. Stands after left.held (h ++ record { ask = Finish s.end.key; reply = r } ∷ [])) (sym same)
         (subst (λ (x : Sending). Stands x left.held (h ++ record { ask = Finish s.end.key; reply = reply } ∷ [])) (sym same_s)
         (subst (λ (x : Queue). Stands s x.held (h ++ record { ask = Finish s.end.key; reply = reply } ∷ [])) (sym same_q)
-        (stays s q.held h (record { ask = Finish s.end.key; reply = reply }) (nothing_finished s.end.key reply ungiven none) still (refuses_finish s.settings s.end h reply answers) old)))
+        (stays s q.held h (record { ask = Finish s.end.key; reply = reply }) (nothing_finished s.end.key reply ungiven none) still (λ here. refuses_finish s.settings s.end h reply answers) old)))
 
     by : Puts s q now (Unit {0}) (ending s) result after left → Stands after left.held (h ++ record { ask = Finish s.end.key; reply = gave_of result } ∷ [])
     by (Puts.Stopped off is_result same_s same_q) = leaves (Gave (Err no.Stopped)) refl refl refl (ap gave_of is_result) same_s same_q (λ kept. stopped s q.held h _ old.reflects off)

@@ -479,7 +479,7 @@ ticks_stand s held now mine new left h e ticks is_now is old =
         let same_state : emitting (clock_of nowh) m ≡ new = settled_stays m (clock_of nowh) settled ∙ sym form.1 ∙ sym ticks.state in
         let same_left : waits_next (clock_of nowh) m left ≡ left = settled_waits m (clock_of nowh) left settled in
         let stands : Stands (emitting (clock_of nowh) m) (waits_next (clock_of nowh) m left) nowh =
-        keeps_law (emitting (clock_of nowh) m) (waits_next (clock_of nowh) m left) h x old.law reflects refuses emission in
+        keeps_law (emitting (clock_of nowh) m) (waits_next (clock_of nowh) m left) h x old.law reflects (λ here. refuses) emission in
         subst (λ (y : Sending). Stands y left nowh) same_state (subst (λ l. Stands (emitting (clock_of nowh) m) l nowh) same_left stands)
 
     stopped : s.stopped ≡ true → clock_of (h ++ record { ask = Tick; reply = Ticked (Ok is.ds) } ∷ []) ≡ now → Stands new left (h ++ record { ask = Tick; reply = Ticked (Ok is.ds) } ∷ [])
@@ -507,7 +507,7 @@ ticks_stand s held now mine new left h e ticks is_now is old =
         subst (λ y. Refuses y new.end h x) (sym (ap (λ (y : Sending). y.settings) is_new)) (subst (λ (y : ConnEnd). Refuses s.settings y h x) (sym (ap (λ (y : Sending). y.end) is_new)) refuses) in
         let due : EmitsDue new.settings new.end h x =
         subst (λ y. EmitsDue y new.end h x) (sym (ap (λ (y : Sending). y.settings) is_new)) (subst (λ (y : ConnEnd). EmitsDue s.settings y h x) (sym (ap (λ (y : Sending). y.end) is_new)) (stopped_due s h x now_off (inr still) passes)) in
-        keeps_law new left h x law reflects refuse due
+        keeps_law new left h x law reflects (λ here. refuse) due
 
     by : (b : Bool) → s.stopped ≡ b → clock_of (h ++ record { ask = Tick; reply = Ticked (Ok is.ds) } ∷ []) ≡ now → Stands new left (h ++ record { ask = Tick; reply = Ticked (Ok is.ds) } ∷ [])
     by false on clock = running on clock
