@@ -32,7 +32,8 @@ use Rattle.ic_law.specs.Emission.{is_among as stands_among}
 use Rattle.ic_law.proofs.Lists.{Contains-map, map-append}
 use Rattle.ic_law.proofs.Readings.{run_heard-push, consumed_heard-push, stopped_of-push}
 use Rattle.ic_sender.specs.declared.send_no.SendNo.{SendNo}
-use Rattle.ic_sender.specs.Sending.{Flight, Sending, Answer, run_with, is_it, copies, hearing, datagrams_again, datagrams_next, rows_next, emitting, waits_next, halting, flight_at}
+use Rattle.ic_sender.specs.declared.flight.Flight.{Flight}
+use Rattle.ic_sender.specs.Sending.{Sending, Answer, run_with, is_it, copies, hearing, datagrams_again, datagrams_next, rows_next, emitting, waits_next, halting, flight_at}
 use Rattle.ic_sender.specs.Calls.{Hears, acknowledging, repeating, missing_of, unknown, IsStrayAck, IsStrayDuplicate, IsStrayDisorder, IsStrayNak}
 use Rattle.ic_sender.specs.Entries.{IsNothingOf, came_of, IsHearing}
 use Rattle.ic_sender.specs.Standing.{Waits, Alike, Reads, Mirrors, Runs, Reflects, KeepsSending, Stands, StandsOn}

@@ -22,7 +22,8 @@ use Rattle.ic_law.specs.Emission.{Timer, Asked, Timing, timing_of, moved, heard_
 use Rattle.ic_law.proofs.Lists.{Contains-none}
 use Rattle.ic_law.proofs.Readings.{fold_every, every_none}
 use Rattle.ic_law.proofs.Timings.{timing_of-none}
-use Rattle.ic_sender.specs.Sending.{Flight, Sending, begun, emitting, waits_next, rows_next}
+use Rattle.ic_sender.specs.declared.flight.Flight.{Flight}
+use Rattle.ic_sender.specs.Sending.{Sending, begun, emitting, waits_next, rows_next}
 use Rattle.ic_sender.specs.Entries.{IsNothingOf, IsBefore, IsSilent}
 use Rattle.ic_sender.specs.Standing.{IsNamed, Waits, Alike, IsPayload, Reads, Mirrors, IsSettled, Runs, Reflects, KeepsSending, Stands, IsUntouched}
 use Rattle.ic_sender.proofs.Emitting.{Ready, emits_on}

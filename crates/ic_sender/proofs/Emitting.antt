@@ -25,7 +25,8 @@ use Rattle.ic_law.specs.Emission.{Timer, Asked, Timing, timing_of, next_timing, 
 use Rattle.ic_law.proofs.Lists.{Contains-none, Contains-one, Contains-head, Contains-tail, head_or_tail, map-append, Contains-map}
 use Rattle.ic_law.proofs.Readings.{emitted_of-push, rows_emitted_of-push}
 use Rattle.ic_law.proofs.Timings.{timing_of-push}
-use Rattle.ic_sender.specs.Sending.{Flight, Sending, row_of, kept_at, rows_kept, capacity, count_next, rows_next, flight_of, asked_next, sending, asking, emitting, datagrams_next, waiting, waits_next}
+use Rattle.ic_sender.specs.declared.flight.Flight.{Flight}
+use Rattle.ic_sender.specs.Sending.{Sending, row_of, kept_at, rows_kept, capacity, count_next, rows_next, flight_of, asked_next, sending, asking, emitting, datagrams_next, waiting, waits_next}
 use Rattle.ic_sender.specs.Standing.{IsNamed, Waits, Alike, item_of, IsPayload, Reads, Mirrors, IsSettled, Runs, IsStill, Reflects}
 use Rattle.ic_sender.proofs.Lists.{in_behind, behind_has, behind-append, joined_same, map_map}
 use Rattle.ic_sender.proofs.Sent.{AreSealed, row_there, rows_at-append, numbers-rows_at, in_rows_at, sent_again, sent_next, greatest_sent}

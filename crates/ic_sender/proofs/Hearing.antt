@@ -34,7 +34,8 @@ use Rattle.ic_law.proofs.Lists.{Contains-none, Contains-map, map-Contains, map-a
 use Rattle.ic_law.proofs.Readings.{run_heard-push, consumed_heard-push, stopped_of-push}
 use Rattle.ic_sender.specs.declared.send_no.SendNo.{SendNo}
 use Rattle.ic_sender.specs.declared.send_no.SendNo.TheVariants as refused
-use Rattle.ic_sender.specs.Sending.{Flight, Sending, Answer, row_of, kept_at, run_with, freed_window, freeing, is_it, is_among, named, marked, copies, lost_with, resending, hearing, datagrams_again, datagrams_next, rows_next, emitting, waits_next, halting, flight_at, sample_by}
+use Rattle.ic_sender.specs.declared.flight.Flight.{Flight}
+use Rattle.ic_sender.specs.Sending.{Sending, Answer, row_of, kept_at, run_with, freed_window, freeing, is_it, is_among, named, marked, copies, lost_with, resending, hearing, datagrams_again, datagrams_next, rows_next, emitting, waits_next, halting, flight_at, sample_by}
 use Rattle.ic_sender.specs.Calls.{Hears}
 use Rattle.ic_sender.specs.Entries.{IsNothingOf, came_of, IsHearing}
 use Rattle.ic_sender.specs.Standing.{Waits, Alike, item_of, Reads, Mirrors, Runs, Reflects, KeepsSending, Stands, StandsOn}

@@ -16,7 +16,8 @@ use Rattle.ic_law.specs.Filling.{Sealed, plain, final, filling_of, sealed, seale
 use Rattle.ic_law.specs.Points.{Every, SentUpto, IsAcknowledged}
 use Rattle.ic_law.specs.Emission.{Timer, Asked, Timing, timing_of, clock_of, standing, numbers_behind, IsSoon, IsArmed}
 use Rattle.ic_law.proofs.Lists.{Contains-none, Contains-head, Contains-tail, head_or_tail, Contains-map, map-Contains}
-use Rattle.ic_sender.specs.Sending.{Flight, Sending, capacity, asked_next}
+use Rattle.ic_sender.specs.declared.flight.Flight.{Flight}
+use Rattle.ic_sender.specs.Sending.{Sending, capacity, asked_next}
 use Rattle.ic_sender.specs.Standing.{Waits, Alike, item_of, Mirrors, Runs, Reflects, Stands, dues_held, query_at, IsOver, IsOverIn}
 use Rattle.ic_sender.proofs.Lists.{behind_has, lt_yes, not_lt, length-map, length-behind}
 use Rattle.ic_sender.proofs.Sent.{get_within, get_end, length-push, greatest_sent}

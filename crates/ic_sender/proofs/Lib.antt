@@ -12,3 +12,5 @@ mod Dues
 mod Ticking
 mod Beginning
 mod Knowing
+mod Writing
+mod Packets

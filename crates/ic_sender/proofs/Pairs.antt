@@ -15,7 +15,8 @@ use Rattle.ic_law.specs.Filling.{Sealed}
 use Rattle.ic_law.specs.Emission.{Timer, row_at, rows_at, timer_of, lost_where}
 use Rattle.ic_law.specs.Emission.{sample_by as sample_in, is_among as stands_among}
 use Rattle.ic_law.proofs.Lists.{Contains-none, Contains-head, Contains-tail, head_or_tail, map-append}
-use Rattle.ic_sender.specs.Sending.{Flight, sample_by, flight_at, copy_of, copies, lost_with}
+use Rattle.ic_sender.specs.declared.flight.Flight.{Flight}
+use Rattle.ic_sender.specs.Sending.{sample_by, flight_at, copy_of, copies, lost_with}
 use Rattle.ic_sender.specs.Standing.{Waits, Alike}
 
 -- ---- pairs

@@ -22,7 +22,8 @@ use Rattle.ic_law.specs.Emission.{Timer, Asked, Timing, timing_of, next_timing, 
 use Rattle.ic_law.proofs.Lists.{Contains-none, flat_map-Contains, Contains-head}
 use Rattle.ic_law.proofs.Readings.{every_push, emitted_of-push, rows_emitted_of-push, chunks_put_of-push, finished_of-push, heard_of-push, stopped_of-push, run_heard-push, consumed_heard-push}
 use Rattle.ic_law.proofs.Timings.{timing_of-push, ticks_of-push}
-use Rattle.ic_sender.specs.Sending.{Flight, Sending, rows_kept, count_next, rows_next, flight_of, asked_next, emitting, waits_next, waiting}
+use Rattle.ic_sender.specs.declared.flight.Flight.{Flight}
+use Rattle.ic_sender.specs.Sending.{Sending, rows_kept, count_next, rows_next, flight_of, asked_next, emitting, waits_next, waiting}
 use Rattle.ic_sender.specs.Entries.{IsNothingOf}
 use Rattle.ic_sender.specs.Standing.{IsNamed, Reads, Mirrors, IsSettled, Runs, IsStill, Reflects, KeepsSending, Stands}
 use Rattle.ic_sender.proofs.Sent.{fills_by}

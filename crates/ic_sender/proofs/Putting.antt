@@ -32,7 +32,8 @@ use Rattle.ic_law.proofs.Packing.{filling-push, full-push}
 use Rattle.ic_law.proofs.Readings.{chunks_put_of-push, finished_of-push}
 use Rattle.ic_sender.specs.declared.send_no.SendNo.{SendNo}
 use Rattle.ic_sender.specs.declared.send_no.SendNo.TheVariants as refused
-use Rattle.ic_sender.specs.Sending.{Flight, Sending, row_of, kept_at, fits_opened, sealing, adding, ending, count_next, rows_next, emitting, datagrams_next, waits_next}
+use Rattle.ic_sender.specs.declared.flight.Flight.{Flight}
+use Rattle.ic_sender.specs.Sending.{Sending, row_of, kept_at, fits_opened, sealing, adding, ending, count_next, rows_next, emitting, datagrams_next, waits_next}
 use Rattle.ic_sender.specs.Calls.{Puts, NeedsPacket}
 use Rattle.ic_sender.specs.Entries.{IsNothingOf, gave_of, IsPutting, IsFinishing}
 use Rattle.ic_sender.specs.Standing.{Waits, Alike, IsPayload, Reads, Mirrors, Runs, IsStill, Reflects, KeepsSending, Stands, StandsOn}

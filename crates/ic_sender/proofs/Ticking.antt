@@ -31,7 +31,8 @@ use Rattle.ic_law.specs.Emission.{tried as tried_in, is_among as stands_among}
 use Rattle.ic_law.proofs.Lists.{Contains-none, Contains-one, Contains-head, Contains-tail, head_or_tail, Contains-map, map-Contains, flat_map-append, map-append}
 use Rattle.ic_law.proofs.Readings.{stopped_of-push}
 use Rattle.ic_law.proofs.Timings.{ticks_of-push}
-use Rattle.ic_sender.specs.Sending.{Flight, Sending, capacity, count_next, rows_next, asked_next, emitting, waits_next, flight_at, copies, lost_with, counted, is_among, is_spent, spent_of, tried, trying, tries_of, waits_longer, querying}
+use Rattle.ic_sender.specs.declared.flight.Flight.{Flight}
+use Rattle.ic_sender.specs.Sending.{Sending, capacity, count_next, rows_next, asked_next, emitting, waits_next, flight_at, copies, lost_with, counted, is_among, is_spent, spent_of, tried, trying, tries_of, waits_longer, querying}
 use Rattle.ic_sender.specs.Sending.{has_no_try as is_spent_here}
 use Rattle.ic_sender.specs.Calls.{is_unanswered, queries_next, queries_when}
 use Rattle.ic_sender.specs.Entries.{AreAmong, IsTicking, Ticks, tried_when, queried_when}

@@ -2,3 +2,4 @@ pub mod Sending
 pub mod Calls
 pub mod Entries
 pub mod Standing
+pub mod Views

@@ -12,21 +12,10 @@ use Rattle.ic_expire.specs.Queue.{without, with_item}
 use Rattle.ic_window.specs.State.{WindowState, fresh, grown, lost, sampled}
 use Rattle.ic_window.specs.Window.{room_of}
 use Rattle.ic_law.specs.Packets.{RowPacket, row_datagram}
+use Rattle.ic_sender.specs.declared.flight.Flight.{Flight}
 use Rattle.ic_law.specs.Emission.{Asked, wait_in, standing, asked_later, asked_again, numbers_behind}
 
 -- ---- what it is
-
--- a packet that was emitted and isn't acknowledged
-pub record Flight : Type 0 where
-  pub seq : ℕ
-  -- how often ticks emitted it again since the last answer that names it
-  pub tries : ℕ
-  -- the tick at which it was first emitted
-  pub since : ℕ
-  -- whether it was emitted again
-  pub resent : Bool
-  -- what was emitted
-  pub datagram : Datagram
 
 pub record Sending : Type 0 where
   pub end : ConnEnd

@@ -17,7 +17,8 @@ use Rattle.ic_law.specs.Filling.{Sealed, filling_of, sealed_of}
 use Rattle.ic_law.specs.Points.{Every, SameAgain, SentUpto, Sends, IsHere, IsAcknowledged}
 use Rattle.ic_law.specs.Sending.{Refuses}
 use Rattle.ic_law.specs.Emission.{Timer, Asked, Timing, timing_of, clock_of, row_at, numbers_behind, EmitsDue, IsSoon, IsArmed}
-use Rattle.ic_sender.specs.Sending.{Flight, Sending, row_of, kept_at, count_next, asked_next}
+use Rattle.ic_sender.specs.declared.flight.Flight.{Flight}
+use Rattle.ic_sender.specs.Sending.{Sending, row_of, kept_at, count_next, asked_next}
 use Rattle.ic_sender.specs.Entries.{IsBefore, IsSilent}
 
 -- the names of an end fit the words of headers

@@ -2,6 +2,11 @@
 //! socket, no clock, no lock, and no judgement of whose datagram it is.
 #![tactic(auto)]
 
+mod flight;
+mod making;
+mod numbers;
+mod planning;
 mod send_no;
+mod waiting;
 
 pub use send_no::SendNo;
