@@ -19,16 +19,16 @@ use Rattle.ic_sender.proofs.Lists.{in_filter, filter_has, same_number}
 
 -- ---- numbers that increase
 
-increasing_bound : (a : ℕ) (xs : List ℕ) (n : ℕ) → IsIncreasingFrom a xs → Contains xs n → a ≤ n
+pub increasing_bound : (a : ℕ) (xs : List ℕ) (n : ℕ) → IsIncreasingFrom a xs → Contains xs n → a ≤ n
 increasing_bound a [] n inc at = absurd (Contains-none n at)
 increasing_bound a (x ∷ xs) n inc at =
     elim (head_or_tail x xs n at) [ inl same ↦ omega (arith, inc.0, same) | inr later ↦ let i = increasing_bound (x + 1) xs n inc.1 later in omega (arith, i, inc.0) ]
 
-increasing_less : (a b : ℕ) (xs : List ℕ) → a ≤ b → IsIncreasingFrom b xs → IsIncreasingFrom a xs
+pub increasing_less : (a b : ℕ) (xs : List ℕ) → a ≤ b → IsIncreasingFrom b xs → IsIncreasingFrom a xs
 increasing_less a b [] le inc = tt
 increasing_less a b (x ∷ xs) le inc = (omega (arith, le, inc.0), inc.1)
 
-behind_increasing : (a k : ℕ) → IsIncreasingFrom (a + 1) (numbers_behind a k)
+pub behind_increasing : (a k : ℕ) → IsIncreasingFrom (a + 1) (numbers_behind a k)
 behind_increasing a zero = tt
 behind_increasing a (suc k) = (omega arith, behind_increasing (a + 1) k)
 

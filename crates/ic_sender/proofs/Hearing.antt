@@ -111,7 +111,7 @@ listed_same ts (m ∷ numbers) n there = by (stands_among ts m) refl (listed_sam
         other false same e = refl
         other true same e = absurd (let bad : true ≡ false = sym there ∙ ap (stands_among ts) (sym (eqb-true m n same)) ∙ e in cc)
 
-list_any-has : {A : Type 0} (p : A → Bool) (xs : List A) (x : A) → Contains xs x → p x ≡ true → list_any p xs ≡ true
+pub list_any-has : {A : Type 0} (p : A → Bool) (xs : List A) (x : A) → Contains xs x → p x ≡ true → list_any p xs ≡ true
 list_any-has p [] x at pass = absurd (Contains-none x at)
 list_any-has p (y ∷ xs) x at pass =
     elim (head_or_tail y xs x at) [

@@ -14,3 +14,4 @@ mod Beginning
 mod Knowing
 mod Writing
 mod Packets
+mod MayWaiting

@@ -32,18 +32,18 @@ use Rattle.ic_law.proofs.Lists.{Contains-none, Contains-one, Contains-head, Cont
 use Rattle.ic_law.proofs.Readings.{stopped_of-push}
 use Rattle.ic_law.proofs.Timings.{ticks_of-push}
 use Rattle.ic_sender.specs.declared.flight.Flight.{Flight}
-use Rattle.ic_sender.specs.Sending.{Sending, capacity, count_next, rows_next, asked_next, emitting, waits_next, flight_at, copies, lost_with, counted, is_among, is_spent, spent_of, tried, trying, tries_of, waits_longer, querying}
+use Rattle.ic_sender.specs.Sending.{Sending, capacity, count_next, rows_next, asked_next, emitting, waits_next, flight_at, copies, lost_with, counted, is_among, spent_of, tried, trying, tries_of, waits_longer, querying}
 use Rattle.ic_sender.specs.Sending.{has_no_try as is_spent_here}
 use Rattle.ic_sender.specs.Calls.{is_unanswered, queries_next, queries_when}
 use Rattle.ic_sender.specs.Entries.{AreAmong, IsTicking, Ticks, tried_when, queried_when}
 use Rattle.ic_sender.specs.Standing.{IsNamed, Waits, Alike, item_of, Reads, Mirrors, IsSettled, Runs, IsStill, Reflects, KeepsSending, Stands}
-use Rattle.ic_sender.proofs.Lists.{in_behind, map_map, map_same, map_self, find_same, in_filter, filter_has}
+use Rattle.ic_sender.proofs.Lists.{same_number, in_behind, map_map, map_same, map_self, find_same, in_filter, filter_has}
 use Rattle.ic_sender.proofs.Sent.{AreSealed, greatest_sent}
 use Rattle.ic_sender.proofs.Carrying.{AllTravel, rows_again, rows_ask_nothing, rows_made, query_again, query_has_no_rows}
 use Rattle.ic_sender.proofs.Emitting.{Ready, rows_travel, emits_on, rows_are, waits_soon}
 use Rattle.ic_sender.proofs.Passing.{entry_is, keeps_law, chunks_stay, finished_stays, sealed_stays, run_stays, consumed_stays, stopped_stays, settled_stays, settled_rows, settled_waits, PassesStopped, reflects_stopped, stopped_due}
 use Rattle.ic_sender.proofs.Pairs.{alike_in, alike_map, Found, waits_find, copies_are, lost_same, HasLeast, least_lost_with, lost_waits, lost_less}
-use Rattle.ic_sender.proofs.Hearing.{timer_among}
+use Rattle.ic_sender.proofs.Hearing.{timer_among, list_any-has}
 use Rattle.ic_sender.proofs.Dues.{alike_seqs, alike_timer, seqs_increase, numbers_due, passes_among, find_itself, to_conn, from_conn, later_item, longer_keeps, longer_has, longer_is}
 
 -- ---- what a tick makes of a connection
@@ -338,6 +338,13 @@ none_found p (m ∷ ns) n h at = by (p m) refl h (none_found p ns n)
     by true e h rest = absurd (let bad : Some m ≡ None = h in cc)
     by false e h rest = elim (head_or_tail m ns n at) [ inl same ↦ ap p (sym same) ∙ e | inr later ↦ rest h later ]
 
+not_any : {A : Type 0} (p : A → Bool) (xs : List A) (x : A) → list_any p xs ≡ false → Contains xs x → p x ≡ false
+not_any p [] x none at = absurd (Contains-none x at)
+not_any p (y ∷ xs) x none at = elim (cases_Bool (p x)) [
+  | inl pass ↦ absurd (let bad : false ≡ true = sym none ∙ list_any-has p (y ∷ xs) x at pass in cc)
+  | inr fails ↦ fails
+]
+
 -- nothing was given up
 none_spent : (s : Sending) (held : List Item) (h : List Entry) (now : ℕ) (numbers : List ℕ) → min last_tick (ticks_of h + 1) ≡ now → numbers ≡ due_numbers now (timing_of s.end.key s.settings h).timers
     → spent_of s numbers ≡ None → is_unanswered s.settings.retries now s.asked ≡ false → Runs s held h → NoneSpent s.settings s.end.key h
@@ -364,8 +371,9 @@ none_spent s held h now numbers is_now are unspent answered runs = record {
             let packets = sealed_of s.end.key s.settings h in
             let f = alike_timer (Waits s.end packets s.conn held (clock_of h)) s.flights u.timers x m.timers at in
             let there : Contains numbers x.seq = subst (λ l. Contains l x.seq) (sym are) (Contains-map (λ (y : Timer). y.seq) (filter (is_due now) u.timers) x (filter_has (is_due now) u.timers x at e)) in
-            let found : flight_at s.flights x.seq ≡ Some f.0 = ap (flight_at s.flights) f.2.seq ∙ find_itself (λ (g : Flight). g.seq) (s.acked + 1) s.flights f.0 (flights_increase s packets held u (clock_of h) m) f.1 in
-            ap (λ k. k == s.settings.retries) f.2.tries ∙ sym (ap (is_spent s.settings.retries) found) ∙ none_found (is_spent_here s) numbers x.seq unspent there
+            let test : Flight → Bool = (λ (g : Flight). (g.seq == x.seq) && (g.tries == s.settings.retries)) in
+            let none : list_any test s.flights ≡ false = none_found (is_spent_here s) numbers x.seq unspent there in
+            ap (λ k. k == s.settings.retries) f.2.tries ∙ sym (ap (λ b. b && (f.0.tries == s.settings.retries)) (ap (λ n. n == x.seq) (sym f.2.seq) ∙ same_number x.seq)) ∙ not_any test s.flights f.0 none f.1
 
 -- ---- what goes out at a tick
 

@@ -2,6 +2,7 @@
 use Rattle.std.specs.Prelude.{◌≡◌, ℕ, ◌+◌, ◌-◌, ◌^◌, ◌<◌, ◌≤◌, ◌⊎◌, max, nat_le, List, [], ◌∷◌, ◌++◌, length, take, Bool, true, false, ◌==◌, ◌&&◌, Option, Some, None, Result, Ok, Err}
 use Rattle.std.specs.Int.{w32, from_be_bytes}
 use Rattle.ic_base.specs.declared.datagram.Datagram.{Datagram}
+use Rattle.ic_expire.specs.declared.item.Item.{Item}
 use Rattle.ic_expire.specs.Items.{is_upto}
 use Rattle.ic_expire.specs.Queue.{Queue, IsHeld, without}
 use Rattle.ic_law.specs.Packets.{query_datagram}
@@ -30,6 +31,12 @@ LeavesRoom more q = length q.held + more ≤ q.room
 -- the packets that were not emitted
 abbrev pub unsent : Sending → ℕ
 unsent s = s.sealed - s.sent
+
+-- what an event gives that makes m of a connection, and what it leaves
+pub record Gives (m : Sending) (held : List Item) (now : ℕ) (before ds : List Datagram) (after : Sending) (q left : Queue) : Type 0 where
+  pub datagrams : ds ≡ before ++ datagrams_next m
+  pub state : after ≡ emitting now m
+  pub waits : left ≡ record q { held = waits_next now m held }
 
 -- ---- putting
 
@@ -113,3 +120,8 @@ pub data Queries (s : Sending) (now : ℕ) (result : Result (List Datagram) Send
   Asks : is_unanswered s.settings.retries now s.asked ≡ false → result ≡ Ok (queries_next now s) → Queries s now result
   Unanswered : is_unanswered s.settings.retries now s.asked ≡ true → result ≡ Err (refused.Spent s.end.key s.sent s.settings.retries) → Queries s now result
   AsksWithout : result ≡ Err refused.Memory → Queries s now result
+
+-- why no packet more can be sealed
+pub data Refused (s : Sending) (no : SendNo) : Type 0 where
+  IsFull : s.settings.send_depth ≤ length s.kept → no ≡ refused.Full → Refused s no
+  IsTooLong : length s.kept < s.settings.send_depth → 2 ^ 32 ≤ s.sealed + 1 → no ≡ refused.TooLong s.end.key → Refused s no

@@ -237,13 +237,9 @@ halting s = record s { kept = []; flights = []; asked = None; stopped = true }
 
 -- ---- a tick
 
-abbrev pub is_spent : ℕ → Option Flight → Bool
-is_spent retries None = false
-is_spent retries (Some f) = f.tries == retries
-
 -- a packet with no resending left
 abbrev pub has_no_try : Sending → ℕ → Bool
-has_no_try s n = is_spent s.settings.retries (flight_at s.flights n)
+has_no_try s n = list_any (λ f. (f.seq == n) && (f.tries == s.settings.retries)) s.flights
 
 -- the first of these packets with no resending left
 abbrev pub spent_of : Sending → List ℕ → Option ℕ
@@ -265,11 +261,15 @@ abbrev pub tries_of : Option Flight → ℕ
 tries_of None = 0
 tries_of (Some f) = f.tries
 
--- and wait longer, each by its tries
+-- packets wait until ticks that go by their tries
+abbrev pub later_waits : ℕ → ℕ → WindowState → List Flight → List ℕ → List Item → List Item
+later_waits now conn w flights [] held = held
+later_waits now conn w flights (n ∷ numbers) held =
+    later_waits now conn w flights numbers (with_item (record { due = now + wait_in w (tries_of (flight_at flights n) + 1); conn = conn; seq = n }) held)
+
+-- and these wait longer
 abbrev pub waits_longer : ℕ → Sending → List ℕ → List Item → List Item
-waits_longer now s [] held = held
-waits_longer now s (n ∷ numbers) held =
-    waits_longer now s numbers (with_item (record { due = now + wait_in s.window (tries_of (flight_at s.flights n) + 1); conn = s.conn; seq = n }) held)
+waits_longer now s numbers held = later_waits now s.conn s.window s.flights numbers held
 
 -- the status query goes out again
 abbrev pub querying : ℕ → Sending → Sending

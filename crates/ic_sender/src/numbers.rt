@@ -1,5 +1,5 @@
 // The numbers of a connection, and what there is room for.
-ghost use Rattle.std.specs.Prelude.{◌≡◌, ◌+◌, ◌-◌, ◌≤◌, min, nat_le, nat_lt, ◌&&◌, if◌then◌else◌, None, Some};
+ghost use Rattle.std.specs.Prelude.{◌≡◌, ◌+◌, ◌-◌, ◌≤◌, min, nat_le, nat_lt, ◌&&◌, if◌then◌else◌, None, Some, IfSome};
 ghost use Rattle.std.specs.Option.{option_map};
 ghost use Rattle.ic_window.specs.Window.{room_of};
 ghost use Rattle.ic_law.specs.Emission.{standing, asked_later, asked_again, last_tick};
@@ -90,5 +90,21 @@ pub(crate) fn later(window: &Window, asked: Option<Asked>, now: u64) -> Option<A
             tries: 0,
         }),
         None => None,
+    }
+}
+
+/// A status query that is due is emitted, and is due again after a longer time.
+#[tactic(auto, unfolding(ic_law::specs::Emission::last_tick))]
+pub(crate) fn again(window: &Window, asked: Option<Asked>, now: u64) -> Option<Asked>
+    requires now { now ≤ last_tick }
+    requires tries { IfSome asked (λ a. a.tries ≤ 1000) }
+    ensures { option_map asked_of result ≡ option_map (asked_again now window.now) (option_map asked_of asked) }
+{
+    match asked {
+        Some(asked) if asked.due <= now => Some(Asked {
+            due: now + window.wait(asked.tries + 1),
+            tries: asked.tries + 1,
+        }),
+        other => other,
     }
 }

@@ -2,14 +2,16 @@
 ghost use Rattle.std.specs.Prelude.{◌≡◌, ℕ, ◌+◌, ◌-◌, ◌<◌, ◌≤◌, [], ◌∷◌, ◌++◌, map, length, IfOk, IfSome, OnOk};
 ghost use Rattle.std.specs.Option.{option_map};
 ghost use Rattle.ic_sendring.specs.Ring.{IsRing};
-ghost use Rattle.ic_law.specs.Emission.{numbers_behind};
+ghost use Rattle.ic_law.specs.Emission.{last_tick, numbers_behind};
 ghost use Rattle.ic_sender.specs.Sending.{row_of, kept_at, rows_kept, flight_of};
-ghost use Rattle.ic_sender.specs.Views.{with_newest, newest_of, one_of};
+ghost use Rattle.ic_sender.specs.Views.{asked_of, with_newest, newest_of, one_of, Plans};
 
-use crate::flight::Flight;
+use crate::flight::{Flight, push_datagrams};
 use crate::making::row;
-use ic_base::ConnEnd;
+use crate::numbers::{Asked, Numbers};
+use ic_base::{ConnEnd, Datagram};
 use ic_sendring::{Sealed, SendRing};
+use ic_window::Window;
 use std::alloc::{AllocError, Global};
 
 /// Adds a packet that goes out at this tick.
@@ -100,4 +102,54 @@ pub(crate) fn going(
         push_at(alloc, end, ring, newest, sent + 1 + behind, now, &mut out)?;
     }
     Ok(out)
+}
+
+/// What goes out at the end of an event.
+pub(crate) struct Plan {
+    /// How many packets more will have been emitted.
+    pub count: u32,
+    pub flights: Vec<Flight>,
+    /// The status query that stands then.
+    pub asked: Option<Asked>,
+    /// The tick until which the packets wait.
+    pub due: u64,
+}
+
+/// Plans the end of an event, for a connection as the event makes it: emits what there is room for. The one place
+/// where that is decided. Adds the datagrams that go out.
+#[tactic(auto, unfolding(ic_law::specs::Emission::last_tick))]
+pub(crate) fn plan_end(
+    alloc: Global,
+    end: &ConnEnd,
+    ring: &SendRing,
+    newest: Option<Sealed<'_>>,
+    numbers: &Numbers,
+    window: &Window,
+    depth: u32,
+    asked: Option<Asked>,
+    now: u64,
+    out: &mut Vec<Datagram>,
+) -> Result<Plan, AllocError>
+    requires packet { ring.now.packet ≤ 65507 }
+    requires newest { IfSome newest (λ n. length n.payload.now ≤ 65507) }
+    requires now { now ≤ last_tick }
+    ensures plans { IfOk result (λ p. Plans end.now (with_newest ring.now newest.entry) numbers.now window.now depth (option_map asked_of asked) now p) }
+    ensures adds { IfOk result (λ p. out.new.items ≡ out.old.items ++ map (λ f. f.datagram) p.flights.items) }
+{
+    let count = numbers.next(depth, window);
+    let flights = going(alloc, end, ring, newest, numbers.sent, count, now)?;
+    push_datagrams(flights.as_slice(), out)?;
+    let after = Numbers {
+        sealed: numbers.sealed,
+        sent: numbers.sent + count,
+        acked: numbers.acked,
+        consumed: numbers.consumed,
+    };
+    let asked = after.asks(depth, window, asked, now);
+    Ok(Plan {
+        count,
+        flights,
+        asked,
+        due: now + window.wait(0),
+    })
 }
