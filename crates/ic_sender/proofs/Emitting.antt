@@ -220,6 +220,9 @@ waits_least (suc tries) r =
     let rises = subst (λ n. wait_of tries r ≤ wait_of n r) next (waits_rise tries r).0 in
     omega (arith, i, rises)
 
+pub waits_two : (w : WindowState) → 2 ≤ wait_in w 0
+waits_two w = least_wait w.round_trip
+
 -- what waits is due soon
 pub waits_soon : (w : WindowState) (tries clock : ℕ) → IsSoon clock (clock + wait_in w tries)
 waits_soon w tries clock = let least = waits_least tries w.round_trip in record { later = omega (arith, least); near = omega arith }

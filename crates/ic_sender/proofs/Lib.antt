@@ -15,3 +15,4 @@ mod Knowing
 mod Writing
 mod Packets
 mod MayWaiting
+mod Ending

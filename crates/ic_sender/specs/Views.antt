@@ -74,7 +74,7 @@ pub record Plans (end : ConnEnd) (kept : List RowPacket) (n : Numbers) (w : Wind
 abbrev pub FewTries : ℕ → List Flight → Type 0
 FewTries retries flights = AllByRecursion (λ f. f.tries ≤ retries) flights
 
-abbrev pub AsksFew : ℕ → Option Asked → Type 0
+abbrev pub AsksFew : ℕ → Option law.Asked → Type 0
 AsksFew retries None = Unit {0}
 AsksFew retries (Some a) = a.tries ≤ retries
 
@@ -89,4 +89,4 @@ pub record IsSound (settings : Settings) (opened : Vec ℕ Global) (ring : Ring)
   pub sealed : ring.sealed ≡ numbers.sealed
   pub up : numbers.acked ≤ numbers.sent
   pub tries : FewTries settings.retries flights
-  pub asks : AsksFew settings.retries asked
+  pub asks : AsksFew settings.retries (option_map asked_of asked)

@@ -6,7 +6,10 @@ mod flight;
 mod making;
 mod numbers;
 mod planning;
+mod put;
 mod send_no;
+mod sender;
 mod waiting;
 
 pub use send_no::SendNo;
+pub use sender::Sender;

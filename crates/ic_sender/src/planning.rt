@@ -105,6 +105,7 @@ pub(crate) fn going(
 }
 
 /// What goes out at the end of an event.
+#[derive(Drop)]
 pub(crate) struct Plan {
     /// How many packets more will have been emitted.
     pub count: u32,
