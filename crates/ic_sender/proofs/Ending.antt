@@ -5,7 +5,10 @@ use Rattle.std.specs.List.{AllByRecursion}
 use Rattle.std.specs.Option.{option_map}
 use Rattle.ic_base.specs.declared.keys.ConnEnd.{ConnEnd}
 use Rattle.ic_base.specs.declared.datagram.Datagram.{Datagram}
+use Rattle.ic_chunk.specs.Chunks.{spelled, end_of_stream}
 use Rattle.ic_chunk.proofs.Lists.{all_both}
+use Rattle.ic_sendring.specs.Ring.{Ring, Kept, next_packet}
+use Rattle.ic_law.proofs.Lists.{map-append}
 use Rattle.ic_expire.specs.declared.item.Item.{Item}
 use Rattle.ic_expire.specs.Queue.{Queue, IsHeld, without}
 use Rattle.ic_window.specs.State.{WindowState}
@@ -17,7 +20,7 @@ use Rattle.ic_sender.specs.declared.numbers.Numbers.{Numbers}
 use Rattle.ic_sender.specs.declared.planning.Plan.{Plan}
 use Rattle.ic_sender.specs.Sending.{Sending, count_next, rows_next, rows_kept, flight_of, emitting, datagrams_next, waiting, waits_next}
 use Rattle.ic_sender.specs.Calls.{Gives, IsNow}
-use Rattle.ic_sender.specs.Views.{asked_of, Plans, count_of, asked_then, MayWait, FewTries, AsksFew}
+use Rattle.ic_sender.specs.Views.{asked_of, rows_in, row_in, Plans, count_of, asked_then, MayWait, FewTries, AsksFew}
 use Rattle.ic_sender.proofs.Lists.{map_map}
 use Rattle.ic_sender.proofs.Emitting.{waits_soon, waits_two}
 use Rattle.ic_sender.proofs.MayWaiting.{going_may}
@@ -85,3 +88,13 @@ asks_few retries m p now plans few =
 pub length-append : (xs ys : List ℕ) → length (xs ++ ys) ≡ length xs + length ys
 length-append [] ys = omega arith
 length-append (x ∷ xs) ys = let i = length-append xs ys in omega (arith, i)
+
+pub end_length : length (spelled end_of_stream) ≡ 4
+unfolding spelled
+end_length = refl
+
+-- a packet that is sealed is a packet of rows more
+pub row_sealed : (ring : Ring) (payload : List ℕ) (last : Bool) (sealed : ℕ) → ring.sealed ≡ sealed
+    → rows_in (record ring { sealed = ring.sealed + 1; kept = ring.kept ++ next_packet ring payload last ∷ [] }) ≡ rows_in ring ++ record { seq = sealed + 1; payload = payload; last = last } ∷ []
+row_sealed ring payload last sealed same =
+    map-append (λ (k : Kept). row_in k.packet) ring.kept (next_packet ring payload last ∷ []) ∙ ap (λ n. rows_in ring ++ record { seq = n + 1; payload = payload; last = last } ∷ []) same

@@ -1,5 +1,5 @@
 -- What each call answers, and what it leaves.
-use Rattle.std.specs.Prelude.{◌≡◌, ℕ, ◌+◌, ◌-◌, ◌^◌, ◌<◌, ◌≤◌, ◌⊎◌, max, nat_le, List, [], ◌∷◌, ◌++◌, length, take, Bool, true, false, ◌==◌, ◌&&◌, Option, Some, None, Result, Ok, Err}
+use Rattle.std.specs.Prelude.{◌≡◌, ℕ, ◌+◌, ◌-◌, ◌^◌, ◌<◌, ◌≤◌, ◌⊎◌, max, nat_le, nat_lt, if◌then◌else◌, List, [], ◌∷◌, ◌++◌, length, take, Bool, true, false, ◌==◌, ◌&&◌, Option, Some, None, Result, Ok, Err}
 use Rattle.std.specs.Int.{w32, from_be_bytes}
 use Rattle.ic_base.specs.declared.datagram.Datagram.{Datagram}
 use Rattle.ic_expire.specs.declared.item.Item.{Item}
@@ -31,6 +31,10 @@ LeavesRoom more q = length q.held + more ≤ q.room
 -- the packets that were not emitted
 abbrev pub unsent : Sending → ℕ
 unsent s = s.sealed - s.sent
+
+-- and one more, where one more can be sealed
+abbrev pub unsealed : Sending → ℕ
+unsealed s = unsent s + (if nat_lt (length s.kept) s.settings.send_depth then 1 else 0)
 
 -- what an event gives that makes m of a connection, and what it leaves
 pub record Gives (m : Sending) (held : List Item) (now : ℕ) (before ds : List Datagram) (after : Sending) (q left : Queue) : Type 0 where

@@ -1,5 +1,5 @@
 // The numbers of a connection, and what there is room for.
-ghost use Rattle.std.specs.Prelude.{◌≡◌, ◌+◌, ◌-◌, ◌≤◌, min, nat_le, nat_lt, ◌&&◌, if◌then◌else◌, None, Some, IfSome};
+ghost use Rattle.std.specs.Prelude.{◌≡◌, ◌+◌, ◌-◌, ◌≤◌, ◌<◌, min, nat_le, nat_lt, ◌&&◌, if◌then◌else◌, None, Some, IfSome};
 ghost use Rattle.std.specs.Option.{option_map};
 ghost use Rattle.ic_window.specs.Window.{room_of};
 ghost use Rattle.ic_law.specs.Emission.{standing, asked_later, asked_again, last_tick};
@@ -30,6 +30,19 @@ pub(crate) struct Numbers {
 }
 
 impl Numbers {
+    /// With one packet more sealed.
+    pub(crate) fn with_one(&self) -> Numbers
+        requires { self.now.sealed + 1 < 4294967296 }
+        ensures { result ≡ record self.now { sealed = self.now.sealed + 1 } }
+    {
+        Numbers {
+            sealed: self.sealed + 1,
+            sent: self.sent,
+            acked: self.acked,
+            consumed: self.consumed,
+        }
+    }
+
     /// How many packets the receiver has room for beside those emitted.
     fn capacity(&self, depth: u32) -> u32
         ensures { result ≡ depth - (self.now.sent - self.now.consumed) }
