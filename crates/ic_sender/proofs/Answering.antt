@@ -309,6 +309,15 @@ first_last body some_ whole = by (length body / 4) refl
     by zero e inc = absurd (omega (arith, e, some_, whole))
     by (suc n) e inc = increasing_last (from_be_bytes w32 (take 4 body)) (words_from n (drop 4 body)) inc.1
 
+-- a report that isn't stray frees nothing that wasn't emitted
+pub disorder_run : (s : Sending) (seq extra : ℕ) (body : List ℕ) → 0 < length body → length body % 4 ≡ 0 → (IsStrayDisorder s seq extra body → ⊥) → from_be_bytes w32 (take 4 body) - 1 ≤ s.sent
+disorder_run s seq extra body some_ whole fine =
+    at_most (from_be_bytes w32 (take 4 body) - 1) s.sent
+    (λ beyond. fine (inr (inr (inl (λ inc.
+      let first = first_last body some_ whole inc in
+      let before = at_most extra s.sent (λ lt. fine (inr (inl lt))) in
+      fine (inr (inr (inr (omega (arith, beyond, first, before))))))))))
+
 disorder_judged : (s : Sending) (p : Packet) (seq extra : ℕ) (body : List ℕ) → 0 < length body → length body % 4 ≡ 0 → p.head.flags ≡ Disorder → p.head.seq ≡ seq → p.head.extra ≡ extra → p.body ≡ body
     → IsJudged s p (missing_of seq body) (IsStrayDisorder s seq extra body)
 disorder_judged s p seq extra body some_ whole flags seq_is extra_is body_is = record {
@@ -322,11 +331,7 @@ disorder_judged s p seq extra body some_ whole flags seq_is extra_is body_is = r
   };
   stray_there = λ is. subst (λ f. IsStrayBy f s.sent p) (sym flags) (subst (λ n. Strays n p.head.extra p.body) (sym seq_is) (subst (λ n. Strays seq n p.body) (sym extra_is) (subst (Strays seq extra) (sym body_is) is)));
   stray_here = λ is. subst (Strays seq extra) body_is (subst (λ n. Strays seq n p.body) extra_is (subst (λ n. Strays n p.head.extra p.body) seq_is (subst (λ f. IsStrayBy f s.sent p) flags is)));
-  run = λ fine. at_most (from_be_bytes w32 (take 4 body) - 1) s.sent
-    (λ beyond. fine (inr (inr (inl (λ inc.
-      let first = first_last body some_ whole inc in
-      let before = at_most extra s.sent (λ lt. fine (inr (inl lt))) in
-      fine (inr (inr (inr (omega (arith, beyond, first, before))))))))));
+  run = disorder_run s seq extra body some_ whole;
   taken = λ fine. omega arith;
 }
   where

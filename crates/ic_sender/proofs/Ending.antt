@@ -1,14 +1,15 @@
 -- The end of every event, as the code comes to it by a plan.
-use Rattle.std.proofs.Common.{◌≡◌, ℕ, zero, suc, ◌+◌, ◌-◌, ◌<◌, ◌≤◌, min, List, [], ◌∷◌, ◌++◌, length, map, Bool, true, false, cond, ◌&&◌, Option, Some, None, refl, ap, sym, ◌∙◌, subst, arith, append-nil}
-use Rattle.std.specs.Prelude.{nat_lt, nat_le, filter}
-use Rattle.std.specs.List.{AllByRecursion}
+use Rattle.std.proofs.Common.{◌≡◌, ℕ, zero, suc, ◌+◌, ◌-◌, ◌<◌, ◌≤◌, min, List, [], ◌∷◌, ◌++◌, length, map, Bool, true, false, cond, ◌&&◌, ◌||◌, ◌==◌, inl, inr, Option, Some, None, refl, ap, sym, ◌∙◌, subst, arith, append-nil}
+use Rattle.std.specs.Prelude.{nat_lt, nat_le, filter, find}
+use Rattle.std.specs.List.{AllByRecursion, Contains, list_any}
+use Rattle.std.proofs.lemmas.Bool.{cases_lt, eqb-true}
 use Rattle.std.specs.Option.{option_map}
 use Rattle.ic_base.specs.declared.keys.ConnEnd.{ConnEnd}
 use Rattle.ic_base.specs.declared.datagram.Datagram.{Datagram}
 use Rattle.ic_chunk.specs.Chunks.{spelled, end_of_stream}
 use Rattle.ic_chunk.proofs.Lists.{all_both}
-use Rattle.ic_sendring.specs.Ring.{Ring, Kept, next_packet}
-use Rattle.ic_law.proofs.Lists.{map-append}
+use Rattle.ic_sendring.specs.Ring.{Ring, Kept, next_packet, behind}
+use Rattle.ic_law.proofs.Lists.{map-append, Contains-head, Contains-tail}
 use Rattle.ic_expire.specs.declared.item.Item.{Item}
 use Rattle.ic_expire.specs.Queue.{Queue, IsHeld, without}
 use Rattle.ic_window.specs.State.{WindowState}
@@ -18,10 +19,11 @@ use Rattle.ic_sender.specs.declared.flight.Flight.{Flight}
 use Rattle.ic_sender.specs.declared.numbers.Asked.{Asked}
 use Rattle.ic_sender.specs.declared.numbers.Numbers.{Numbers}
 use Rattle.ic_sender.specs.declared.planning.Plan.{Plan}
-use Rattle.ic_sender.specs.Sending.{Sending, count_next, rows_next, rows_kept, flight_of, emitting, datagrams_next, waiting, waits_next}
-use Rattle.ic_sender.specs.Calls.{Gives, IsNow}
+use Rattle.ic_sender.specs.Sending.{row_of, kept_at, is_among, is_it, named, marked, tried, Sending, count_next, rows_next, rows_kept, flight_of, emitting, datagrams_next, waiting, waits_next}
+use Rattle.ic_sender.specs.Calls.{Gives, IsNow, is_unanswered}
 use Rattle.ic_sender.specs.Views.{asked_of, rows_in, row_in, Plans, count_of, asked_then, MayWait, FewTries, AsksFew}
-use Rattle.ic_sender.proofs.Lists.{map_map}
+use Rattle.ic_sender.proofs.Lists.{map_map, map_filter, joined_same, in_behind, find_filter, lt_yes, same_number}
+use Rattle.ic_sender.proofs.Ticking.{none_found, not_any}
 use Rattle.ic_sender.proofs.Emitting.{waits_soon, waits_two}
 use Rattle.ic_sender.proofs.MayWaiting.{going_may}
 
@@ -98,3 +100,92 @@ pub row_sealed : (ring : Ring) (payload : List ℕ) (last : Bool) (sealed : ℕ)
     → rows_in (record ring { sealed = ring.sealed + 1; kept = ring.kept ++ next_packet ring payload last ∷ [] }) ≡ rows_in ring ++ record { seq = sealed + 1; payload = payload; last = last } ∷ []
 row_sealed ring payload last sealed same =
     map-append (λ (k : Kept). row_in k.packet) ring.kept (next_packet ring payload last ∷ []) ∙ ap (λ n. rows_in ring ++ record { seq = n + 1; payload = payload; last = last } ∷ []) same
+
+-- ---- what an answer leaves
+
+rows_freed : (kept : List RowPacket) (run sent k : ℕ) → run ≤ sent → rows_kept (filter (λ (x : RowPacket). nat_lt run x.seq) kept) (law.numbers_behind sent k) ≡ rows_kept kept (law.numbers_behind sent k)
+rows_freed kept run sent k le =
+    joined_same (λ n. row_of (kept_at (filter (λ (x : RowPacket). nat_lt run x.seq) kept) n)) (λ n. row_of (kept_at kept n)) (law.numbers_behind sent k)
+    (λ n at. let w = in_behind sent k n at in ap row_of (find_filter (λ (x : RowPacket). x.seq) (nat_lt run) kept n (lt_yes run n (omega (arith, w.0, le)))))
+
+-- what is freed doesn't go out
+pub plans_freed : (end : ConnEnd) (kept : List RowPacket) (n : Numbers) (w : WindowState) (depth : ℕ) (o : Option law.Asked) (now : ℕ) (p : Plan) (run : ℕ) → run ≤ n.sent → Plans end kept n w depth o now p
+    → Plans end (filter (λ (x : RowPacket). nat_lt run x.seq) kept) n w depth o now p
+plans_freed end kept n w depth o now p run le plans = record {
+  count = plans.count;
+  flights = plans.flights ∙ ap (map (flight_of end now)) (sym (rows_freed kept run n.sent (count_of n w depth) le));
+  asks = plans.asks;
+  due = plans.due;
+}
+
+pub ring_freed : (ring : Ring) (run : ℕ) → rows_in (record ring { kept = behind run ring.kept }) ≡ filter (λ (x : RowPacket). nat_lt run x.seq) (rows_in ring)
+ring_freed ring run = map_filter (λ (x : RowPacket). nat_lt run x.seq) (λ (k : Kept). row_in k.packet) ring.kept
+
+pub few_heard : (retries : ℕ) (names : Option ℕ) (lists : List ℕ) (p : Flight → Bool) (fs : List Flight) → FewTries retries fs → FewTries retries (map (λ f. marked lists (named names f)) (filter p fs))
+few_heard retries names lists p [] few = tt
+few_heard retries names lists p (f ∷ fs) few = by (p f) (few_heard retries names lists p fs few.1)
+  where
+    one : (b d : Bool) → (cond b (record (cond d (record f { tries = 0 }) f) { resent = true }) (cond d (record f { tries = 0 }) f)).tries ≤ retries
+    one true true = omega arith
+    one true false = few.0
+    one false true = omega arith
+    one false false = few.0
+
+    by : (b : Bool) → FewTries retries (map (λ f. marked lists (named names f)) (filter p fs)) → FewTries retries (map (λ f. marked lists (named names f)) (cond b (f ∷ filter p fs) (filter p fs)))
+    by true rest = (one (is_among lists (named names f).seq) (is_it names f.seq), rest)
+    by false rest = rest
+
+pub later_few : (retries now : ℕ) (w : WindowState) (o : Option law.Asked) → AsksFew retries (option_map (law.asked_later now w) o)
+later_few retries now w None = tt
+later_few retries now w (Some a) = omega arith
+
+-- ---- what a tick leaves
+
+any_there : (numbers : List ℕ) (n : ℕ) → is_among numbers n ≡ true → Contains numbers n
+any_there [] n h = let bad : false ≡ true = h in cc
+any_there (m ∷ numbers) n h = by (m == n) refl h (any_there numbers n)
+  where
+    by : (b : Bool) → (m == n) ≡ b → (b || is_among numbers n) ≡ true → (is_among numbers n ≡ true → Contains numbers n) → Contains (m ∷ numbers) n
+    by true e h rest = subst (Contains (m ∷ numbers)) (eqb-true m n e) (Contains-head m numbers)
+    by false e h rest = Contains-tail m numbers n (rest h)
+
+-- one more try of those that aren't spent
+pub few_tried : (retries : ℕ) (numbers : List ℕ) (flights : List Flight) → find (λ n. list_any (λ (f : Flight). (f.seq == n) && (f.tries == retries)) flights) numbers ≡ None → FewTries retries flights
+    → FewTries retries (map (tried numbers) flights)
+few_tried retries numbers flights unspent few = go flights (λ f at. at) few
+  where
+    test : ℕ → Bool
+    test n = list_any (λ (f : Flight). (f.seq == n) && (f.tries == retries)) flights
+
+    one : (f : Flight) → Contains flights f → f.tries ≤ retries → (b : Bool) → is_among numbers f.seq ≡ b → (cond b (record f { tries = f.tries + 1; resent = true }) f).tries ≤ retries
+    one f at le false e = le
+    one f at le true e =
+        let there = any_there numbers f.seq e in
+        let none : list_any (λ (g : Flight). (g.seq == f.seq) && (g.tries == retries)) flights ≡ false =
+        none_found (λ n. list_any (λ (g : Flight). (g.seq == n) && (g.tries == retries)) flights) numbers f.seq unspent there in
+        let fails : ((f.seq == f.seq) && (f.tries == retries)) ≡ false = not_any (λ (g : Flight). (g.seq == f.seq) && (g.tries == retries)) flights f none at in
+        let other : (f.tries == retries) ≡ false = sym (ap (λ b. b && (f.tries == retries)) (same_number f.seq)) ∙ fails in
+        elim (cases_lt f.tries retries) [
+          | inl lt ↦ omega (arith, lt)
+          | inr ge ↦
+              let same : f.tries ≡ retries = omega (arith, le, ge) in
+              absurd (let bad : true ≡ false = sym (same_number retries) ∙ ap (λ n. n == retries) (sym same) ∙ other in cc)
+        ]
+
+    go : (gs : List Flight) → ((f : Flight) → Contains gs f → Contains flights f) → FewTries retries gs → FewTries retries (map (tried numbers) gs)
+    go [] within few = tt
+    go (g ∷ gs) within few = (one g (within g (Contains-head g gs)) few.0 (is_among numbers g.seq) refl, go gs (λ f at. within f (Contains-tail g gs f at)) few.1)
+
+-- and of a query that isn't
+pub asks_again : (retries now : ℕ) (w : WindowState) (o : Option law.Asked) → AsksFew retries o → is_unanswered retries now o ≡ false → AsksFew retries (option_map (law.asked_again now w) o)
+asks_again retries now w None few answered = tt
+asks_again retries now w (Some a) few answered = by (nat_le a.due now) answered
+  where
+    by : (b : Bool) → (b && (a.tries == retries)) ≡ false → (cond b (record { due = now + law.wait_in w (a.tries + 1); tries = a.tries + 1 }) a).tries ≤ retries
+    by false h = few
+    by true h = elim (cases_lt a.tries retries) [
+      | inl lt ↦ omega (arith, lt)
+      | inr ge ↦
+          let same : a.tries ≡ retries = omega (arith, few, ge) in
+          absurd (let bad : true ≡ false = sym (same_number retries) ∙ ap (λ n. n == retries) (sym same) ∙ h in cc)
+    ]

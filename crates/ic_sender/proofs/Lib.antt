@@ -16,3 +16,4 @@ mod Writing
 mod Packets
 mod MayWaiting
 mod Ending
+mod WordLemmas

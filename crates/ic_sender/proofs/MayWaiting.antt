@@ -11,11 +11,12 @@ use Rattle.ic_expire.proofs.Holding.{put_holds, rest_holds}
 use Rattle.ic_law.specs.Packets.{RowPacket}
 use Rattle.ic_law.specs.Numbers.{IsIncreasingFrom}
 use Rattle.ic_law.specs.Emission.{numbers_behind}
+use Rattle.ic_law.proofs.Lists.{Contains-head, Contains-tail}
 use Rattle.ic_sender.specs.declared.flight.Flight.{Flight}
 use Rattle.ic_sender.specs.Sending.{row_of, kept_at, rows_kept, flight_of}
 use Rattle.ic_sender.specs.Views.{MayWait}
 use Rattle.ic_sender.proofs.Lists.{map_map, find_same}
-use Rattle.ic_sender.proofs.Dues.{increasing_less}
+use Rattle.ic_sender.proofs.Dues.{increasing_less, increasing_bound}
 
 -- what is left of a list begins with the next element
 pub next_left : {A : Type 0} (xs : List A) (i : ℕ) (x : A) → i < length xs → x ≡ slice_index_or xs i x → drop i xs ≡ x ∷ drop (i + 1) xs
@@ -48,16 +49,16 @@ length-without test held = let split = split_length test held in omega (arith, s
 
 -- the first of them may wait now
 pub may_now : (conn n : ℕ) (numbers : List ℕ) (q : Queue) → MayWait conn (n ∷ numbers) q → (IsHeld conn n q.held → ⊥) × (length q.held < q.room)
-may_now conn n numbers q may = ((λ held. let le = may.alone n held in omega (arith, le, may.increase.0)), (let room = may.room in omega (arith, room)))
+may_now conn n numbers q may = (may.absent n (Contains-head n numbers), (let room = may.room in omega (arith, room)))
 
 -- and then the others
 pub may_next : (conn n due : ℕ) (numbers : List ℕ) (q : Queue) → MayWait conn (n ∷ numbers) q → MayWait conn numbers (record q { held = with_item (record { due = due; conn = conn; seq = n }) q.held })
 may_next conn n due numbers q may = record {
-  least = n;
-  alone = λ m held. elim ((put_holds q.held (record { due = due; conn = conn; seq = n }) (record { due = held.0; conn = conn; seq = m })).0 held.1) [
-    | inl same ↦ let e : m ≡ n = ap (λ (x : Item). x.seq) same in omega (arith, e)
-    | inr before ↦ let le = may.alone m (held.0, before) in omega (arith, le, may.increase.0)
+  absent = λ m at held. elim ((put_holds q.held (record { due = due; conn = conn; seq = n }) (record { due = held.0; conn = conn; seq = m })).0 held.1) [
+    | inl same ↦ let e : m ≡ n = ap (λ (x : Item). x.seq) same in let b = increasing_bound (n + 1) numbers m may.increase.1 at in omega (arith, e, b)
+    | inr before ↦ may.absent m (Contains-tail n numbers m at) (held.0, before)
   ];
+  least = n + 1;
   increase = may.increase.1;
   room = let len = length-with (record { due = due; conn = conn; seq = n }) q.held in omega (arith, len, may.room);
 }
@@ -92,7 +93,13 @@ going_may end now conn kept sent count q flights are alone room =
     let k = kept_increase kept sent count in
     let seqs : map (λ (f : Flight). f.seq) flights ≡ map (λ (p : RowPacket). p.seq) rows = ap (map (λ (f : Flight). f.seq)) are ∙ map_map (λ (f : Flight). f.seq) (flight_of end now) rows in
     let len : length (map (λ (f : Flight). f.seq) flights) ≡ length rows = ap length seqs ∙ length-map (λ (p : RowPacket). p.seq) rows in
-    record { least = sent; alone = alone; increase = subst (IsIncreasingFrom (sent + 1)) (sym seqs) k.0; room = omega (arith, len, k.1, room) }
+    let rise = subst (IsIncreasingFrom (sent + 1)) (sym seqs) k.0 in
+    record {
+      absent = λ n at held. let le = alone n held in let b = increasing_bound (sent + 1) (map (λ (f : Flight). f.seq) flights) n rise at in omega (arith, le, b);
+      least = sent + 1;
+      increase = rise;
+      room = omega (arith, len, k.1, room);
+    }
 
 -- and no less so once some wait no more
 pub alone_without : (conn sent : ℕ) (test : Item → Bool) (held : List Item) → ((n : ℕ) → IsHeld conn n held → n ≤ sent) → (n : ℕ) → IsHeld conn n (without test held) → n ≤ sent

@@ -158,18 +158,16 @@ least_sampled clock (Some f) w h = by f.resent
     by false = h
 
 -- a loss leaves the waiting time
-pub lost_waits : (ds : List Datagram) (w : WindowState) → (lost_with ds w).round_trip ≡ w.round_trip
-lost_waits [] w = refl
-lost_waits (d ∷ ds) w = by w.flow
+pub lost_waits_one : (w : WindowState) → (lost w).round_trip ≡ w.round_trip
+lost_waits_one w = by w.flow
   where
     by : (flow : Flow) → (by_flow flow (record w { window = 256; threshold = halved w.window }) w).round_trip ≡ w.round_trip
     by Loss = refl
     by Capacity = refl
 
 -- a loss leaves no more room
-pub lost_less : (ds : List Datagram) (w : WindowState) → HasLeast w → (lost_with ds w).window ≤ w.window
-lost_less [] w h = omega arith
-lost_less (d ∷ ds) w h = by w.flow
+pub lost_less_one : (w : WindowState) → HasLeast w → (lost w).window ≤ w.window
+lost_less_one w h = by w.flow
   where
     by : (flow : Flow) → (by_flow flow (record w { window = 256; threshold = halved w.window }) w).window ≤ w.window
     by Loss = h.1

@@ -42,7 +42,7 @@ use Rattle.ic_sender.proofs.Sent.{AreSealed, greatest_sent}
 use Rattle.ic_sender.proofs.Carrying.{AllTravel, rows_again, rows_ask_nothing, rows_made, query_again, query_has_no_rows}
 use Rattle.ic_sender.proofs.Emitting.{Ready, rows_travel, emits_on, rows_are, waits_soon}
 use Rattle.ic_sender.proofs.Passing.{entry_is, keeps_law, chunks_stay, finished_stays, sealed_stays, run_stays, consumed_stays, stopped_stays, settled_stays, settled_rows, settled_waits, PassesStopped, reflects_stopped, stopped_due}
-use Rattle.ic_sender.proofs.Pairs.{alike_in, alike_map, Found, waits_find, copies_are, lost_same, HasLeast, least_lost_with, lost_waits, lost_less}
+use Rattle.ic_sender.proofs.Pairs.{alike_in, alike_map, Found, waits_find, copies_are, HasLeast, least_lost, lost_waits_one, lost_less_one}
 use Rattle.ic_sender.proofs.Hearing.{timer_among, list_any-has}
 use Rattle.ic_sender.proofs.Dues.{alike_seqs, alike_timer, seqs_increase, numbers_due, passes_among, find_itself, to_conn, from_conn, later_item, longer_keeps, longer_has, longer_is}
 
@@ -52,7 +52,7 @@ abbrev pub ticked_as : ℕ → List ℕ → Sending → ℕ → Sending
 ticked_as now numbers s resent =
     record s {
       flights = map (tried numbers) s.flights;
-      window = lost_with (copies s.flights numbers) s.window;
+      window = lost_where numbers s.window;
       asked = option_map (asked_again now s.window) s.asked;
       resent = resent;
     }
@@ -75,6 +75,10 @@ queried_as now s x asked same = by (query_due now s.asked) refl
     by true e = ap (λ o. record x { asked = o }) (again_same now x.window s.window x.asked same ∙ ap (option_map (asked_again now s.window)) asked)
     by false e = ap (λ o. record x { asked = o }) (asked ∙ not_due now s.window s.asked e)
 
+waits_same : (numbers : List ℕ) (w : WindowState) → (lost_where numbers w).round_trip ≡ w.round_trip
+waits_same [] w = refl
+waits_same (n ∷ numbers) w = lost_waits_one w
+
 no_copies : (numbers : List ℕ) → copies [] numbers ≡ []
 no_copies [] = refl
 no_copies (n ∷ numbers) = no_copies numbers
@@ -85,7 +89,7 @@ ticks_as now [] s = (
   queried_as now s s refl refl
   ∙ ap (λ l. record s { flights = l; asked = option_map (asked_again now s.window) s.asked }) (sym (map_self (tried []) s.flights not_tried)),
 )
-ticks_as now (n ∷ numbers) s = (counted s.resent (length (copies s.flights (n ∷ numbers))), queried_as now s (trying (n ∷ numbers) s) refl (lost_waits (copies s.flights (n ∷ numbers)) s.window))
+ticks_as now (n ∷ numbers) s = (counted s.resent (length (n ∷ numbers)), queried_as now s (trying (n ∷ numbers) s) refl (waits_same (n ∷ numbers) s.window))
 
 -- ---- what waits, and the timers
 
@@ -199,10 +203,18 @@ again_soon now clock w (Some a) low old x h = by (nat_le a.due now) refl h
         let near = (old a refl).near in
         subst (λ (y : Asked). IsSoon now y.due) same (record { later = omega (arith, beyond); near = omega (arith, near, low) })
 
+least_where : (numbers : List ℕ) (w : WindowState) → HasLeast w → HasLeast (lost_where numbers w)
+least_where [] w h = h
+least_where (n ∷ numbers) w h = least_lost w h
+
+less_where : (numbers : List ℕ) (w : WindowState) → HasLeast w → (lost_where numbers w).window ≤ w.window
+less_where [] w h = omega arith
+less_where (n ∷ numbers) w h = lost_less_one w h
+
 mirrors_ticked : (now : ℕ) (s : Sending) (packets : List Sealed) (held left : List Item) (t : Timing) (clock : ℕ) (numbers : List ℕ) (resent : ℕ) → numbers ≡ due_numbers now t.timers → clock ≤ now → now ≤ clock + 1
     → held_of s.conn left ≡ held_of s.conn (waits_longer now s numbers (without (is_over now) held)) → Mirrors s held packets t clock → Mirrors (ticked_as now numbers s resent) left packets (timing_ticked now t) now
 mirrors_ticked now s packets held left t clock numbers resent are low high same old =
-    let least = least_lost_with (copies s.flights numbers) s.window (old.depth, old.least) in
+    let least = least_where numbers s.window (old.depth, old.least) in
     record {
       sealed = old.sealed;
       small = old.small;
@@ -236,8 +248,7 @@ mirrors_ticked now s packets held left t clock numbers resent are low high same 
               ∙ ap (λ v. item_for (now + wait_in v (w.0.tries + 1)) n) (sym old.window) ∙ ap (λ k. item_for (now + wait_in t.window (w.0.tries + 1)) k) w.2 ∙ ap (item_of s.conn) (sym made),
             )
       ];
-      window = ap (λ l. lost_where l t.window) (sym (due_among now t.timers t.timers (λ x at. at)) ∙ ap (filter (stands_among t.timers)) (sym are))
-        ∙ ap (lost_where (filter (stands_among t.timers) numbers)) old.window ∙ lost_same s.end packets s.conn held clock s.flights t.timers numbers s.window old.timers;
+      window = ap (λ l. lost_where l t.window) (sym are) ∙ ap (lost_where numbers) old.window;
       depth = least.0;
       least = least.1;
       asked = ap (λ w. option_map (asked_again now w) t.asked) old.window ∙ ap (option_map (asked_again now s.window)) old.asked;
@@ -266,8 +277,8 @@ any_window false false later v w o h = refl
 
 settled_ticked : (now : ℕ) (s : Sending) (numbers : List ℕ) (resent : ℕ) → HasLeast s.window → IsSettled s → IsSettled (ticked_as now numbers s resent)
 settled_ticked now s numbers resent least settled =
-    let v = lost_with (copies s.flights numbers) s.window in
-    let less = lost_less (copies s.flights numbers) s.window least in
+    let v = lost_where numbers s.window in
+    let less = less_where numbers s.window least in
     record {
       none = fewer (s.sealed - s.sent) s.window.window v.window (s.sent - s.acked) (capacity s) less settled.none;
       query = λ later. asked_still (nat_lt 0 (capacity s)) (nat_le s.sent s.acked && nat_lt s.sent s.sealed) later now v s.window s.asked
@@ -330,7 +341,7 @@ none_passes : {A : Type 0} (p : A → Bool) (xs : List A) → ((x : A) → Conta
 none_passes p [] h = refl
 none_passes p (x ∷ xs) h = ap (λ b. cond b (x ∷ filter p xs) (filter p xs)) (h x (Contains-head x xs)) ∙ none_passes p xs (λ y at. h y (Contains-tail x xs y at))
 
-none_found : (p : ℕ → Bool) (ns : List ℕ) (n : ℕ) → find p ns ≡ None → Contains ns n → p n ≡ false
+pub none_found : (p : ℕ → Bool) (ns : List ℕ) (n : ℕ) → find p ns ≡ None → Contains ns n → p n ≡ false
 none_found p [] n h at = absurd (Contains-none n at)
 none_found p (m ∷ ns) n h at = by (p m) refl h (none_found p ns n)
   where
@@ -338,7 +349,7 @@ none_found p (m ∷ ns) n h at = by (p m) refl h (none_found p ns n)
     by true e h rest = absurd (let bad : Some m ≡ None = h in cc)
     by false e h rest = elim (head_or_tail m ns n at) [ inl same ↦ ap p (sym same) ∙ e | inr later ↦ rest h later ]
 
-not_any : {A : Type 0} (p : A → Bool) (xs : List A) (x : A) → list_any p xs ≡ false → Contains xs x → p x ≡ false
+pub not_any : {A : Type 0} (p : A → Bool) (xs : List A) (x : A) → list_any p xs ≡ false → Contains xs x → p x ≡ false
 not_any p [] x none at = absurd (Contains-none x at)
 not_any p (y ∷ xs) x none at = elim (cases_Bool (p x)) [
   | inl pass ↦ absurd (let bad : false ≡ true = sym none ∙ list_any-has p (y ∷ xs) x at pass in cc)

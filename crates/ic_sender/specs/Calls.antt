@@ -84,8 +84,11 @@ IsStrayAck s seq extra = (s.sent < seq) ⊎ (seq < extra)
 abbrev pub IsStrayDuplicate : Sending → ℕ → ℕ → Type 0
 IsStrayDuplicate s seq extra = (s.sent < seq) ⊎ (s.sent < extra)
 
+abbrev pub IsStrayListing : ℕ → ℕ → ℕ → List ℕ → Type 0
+IsStrayListing sent seq extra numbers = (sent < seq) ⊎ ((sent < extra) ⊎ ((IsIncreasingFrom 1 numbers → ⊥) ⊎ (extra ≤ last_or 0 numbers)))
+
 abbrev pub IsStrayDisorder : Sending → ℕ → ℕ → List ℕ → Type 0
-IsStrayDisorder s seq extra body = (s.sent < seq) ⊎ ((s.sent < extra) ⊎ ((IsIncreasingFrom 1 (words_in body) → ⊥) ⊎ (extra ≤ last_or 0 (words_in body))))
+IsStrayDisorder s seq extra body = IsStrayListing s.sent seq extra (words_in body)
 
 abbrev pub IsStrayNak : Sending → ℕ → Type 0
 IsStrayNak s seq = s.sent < seq

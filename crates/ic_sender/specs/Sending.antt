@@ -13,7 +13,7 @@ use Rattle.ic_window.specs.State.{WindowState, fresh, grown, lost, sampled}
 use Rattle.ic_window.specs.Window.{room_of}
 use Rattle.ic_law.specs.Packets.{RowPacket, row_datagram}
 use Rattle.ic_sender.specs.declared.flight.Flight.{Flight}
-use Rattle.ic_law.specs.Emission.{Asked, wait_in, standing, asked_later, asked_again, numbers_behind}
+use Rattle.ic_law.specs.Emission.{Asked, wait_in, standing, asked_later, asked_again, numbers_behind, lost_where}
 
 -- ---- what it is
 
@@ -211,7 +211,7 @@ lost_with (d ∷ ds) w = lost w
 
 -- a count that stands still at its end
 abbrev pub counted : ℕ → ℕ → ℕ
-counted n more = min (2 ^ 128 - 1) (n + more)
+counted n more = min (n + more) (2 ^ 128 - 1)
 
 -- what is listed is emitted again, and each answer moves the status query
 abbrev pub resending : ℕ → Answer → Sending → Sending
@@ -253,8 +253,8 @@ abbrev pub trying : List ℕ → Sending → Sending
 trying numbers s =
     record s {
       flights = map (tried numbers) s.flights;
-      window = lost_with (copies s.flights numbers) s.window;
-      resent = counted s.resent (length (copies s.flights numbers));
+      window = lost_where numbers s.window;
+      resent = counted s.resent (length numbers);
     }
 
 abbrev pub tries_of : Option Flight → ℕ

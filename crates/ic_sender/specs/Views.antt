@@ -1,6 +1,6 @@
 -- What a connection keeps in memory, as its model has it.
 use Rattle.std.specs.Prelude.{◌≡◌, ◌-◌, ◌&&◌, min, nat_le, nat_lt, if◌then◌else◌, Vec, vec_capacity, ℕ, ◌+◌, ◌≤◌, length, List, [], ◌∷◌, ◌++◌, map, Option, None, Some}
-use Rattle.std.specs.List.{AllByRecursion}
+use Rattle.std.specs.List.{AllByRecursion, Contains}
 use Rattle.std.specs.Option.{option_map}
 use Rattle.std.specs.declared.alloc.Global.{Global}
 use Rattle.ic_base.specs.declared.settings.Settings.{Settings}
@@ -9,7 +9,8 @@ use Rattle.ic_base.specs.declared.keys.ConnEnd.{ConnEnd}
 use Rattle.ic_window.specs.State.{WindowState}
 use Rattle.ic_window.specs.Window.{room_of}
 use Rattle.ic_sender.specs.declared.planning.Plan.{Plan}
-use Rattle.ic_sender.specs.Sending.{flight_of, rows_kept}
+use Rattle.ic_sender.specs.declared.answers.Answer as declared
+use Rattle.ic_sender.specs.Sending.{Answer, flight_of, rows_kept}
 use Rattle.ic_expire.specs.Queue.{Queue, IsHeld}
 use Rattle.ic_law.specs.Packets.{RowPacket}
 use Rattle.ic_law.specs.Numbers.{IsIncreasingFrom}
@@ -44,11 +45,11 @@ with_newest ring newest = rows_in ring ++ one_of newest
 
 -- ---- what waits
 
--- each of these may wait, one after the other: none of the connection's that waits has its number or a greater one
+-- each of these may wait, one after the other: none of them waits, and they increase
 pub record MayWait (conn : ℕ) (numbers : List ℕ) (q : Queue) : Type 0 where
+  pub absent : (n : ℕ) → Contains numbers n → IsHeld conn n q.held → ⊥
   pub least : ℕ
-  pub alone : (n : ℕ) → IsHeld conn n q.held → n ≤ least
-  pub increase : IsIncreasingFrom (least + 1) numbers
+  pub increase : IsIncreasingFrom least numbers
   pub room : length q.held + length numbers ≤ q.room
 
 -- ---- what goes out
@@ -90,3 +91,8 @@ pub record IsSound (settings : Settings) (opened : Vec ℕ Global) (ring : Ring)
   pub up : numbers.acked ≤ numbers.sent
   pub tries : FewTries settings.retries flights
   pub asks : AsksFew settings.retries (option_map asked_of asked)
+
+-- ---- what an answer tells
+
+abbrev pub told : declared.Answer → Answer
+told a = record { run = a.run; consumed = a.consumed; names = a.names; lists = a.lists.now }

@@ -2,13 +2,16 @@
 //! socket, no clock, no lock, and no judgement of whose datagram it is.
 #![tactic(auto)]
 
+mod answers;
 mod flight;
+mod listing;
 mod making;
 mod numbers;
 mod planning;
 mod put;
 mod send_no;
 mod sender;
+mod ticks;
 mod waiting;
 
 pub use send_no::SendNo;
