@@ -25,14 +25,10 @@ use Rattle.ic_law.proofs.Timings.{timing_of-none}
 use Rattle.ic_sender.specs.declared.flight.Flight.{Flight}
 use Rattle.ic_sender.specs.Sending.{Sending, begun, emitting, waits_next, rows_next}
 use Rattle.ic_sender.specs.Entries.{IsNothingOf, IsBefore, IsSilent}
-use Rattle.ic_sender.specs.Standing.{IsNamed, Waits, Alike, IsPayload, Reads, Mirrors, IsSettled, Runs, Reflects, KeepsSending, Stands, IsUntouched}
+use Rattle.ic_sender.specs.Standing.{IsNamed, Waits, Alike, IsPayload, Reads, Mirrors, IsSettled, Runs, Reflects, KeepsSending, Stands, HoldsNone, IsUntouched}
 use Rattle.ic_sender.proofs.Emitting.{Ready, emits_on}
 use Rattle.ic_sender.proofs.Passing.{keeps_when, chunks_stay, finished_stays, sealed_stays, run_stays, consumed_stays, stopped_stays, settled_stays, settled_rows, settled_waits, no_datagram}
 use Rattle.ic_sender.proofs.Going.{stays}
-
--- nothing waits for this connection
-abbrev pub HoldsNone : ℕ → List Item → Type 0
-HoldsNone conn held = (y : Item) → Contains held y → y.conn ≡ conn → ⊥
 
 -- ---- as it begins
 

@@ -21,7 +21,8 @@ use Rattle.ic_sender.specs.Sending.{Sending, capacity, asked_next}
 use Rattle.ic_sender.specs.Standing.{Waits, Alike, item_of, Mirrors, Runs, Reflects, Stands, dues_held, query_at, IsOver, IsOverIn}
 use Rattle.ic_sender.proofs.Lists.{behind_has, lt_yes, not_lt, length-map, length-behind}
 use Rattle.ic_sender.proofs.Sent.{get_within, get_end, length-push, greatest_sent}
-use Rattle.ic_sender.proofs.Dues.{to_conn}
+use Rattle.ic_sender.proofs.Dues.{to_conn, from_conn}
+use Rattle.ic_sender.proofs.Emitting.{alike_weaken}
 
 -- ---- armed
 
@@ -146,3 +147,54 @@ over_here s held h stands over =
         | inr ack ↦ inr (over_by s held h stands.reflects on ack)
       ]
     ]
+
+-- ---- other connections
+
+pub others_wait : (s : Sending) (held left : List Item) (h : List Entry) → held_of s.conn left ≡ held_of s.conn held → Stands s held h → Stands s left h
+others_wait s held left h same stands =
+    let old = stands.reflects in
+    record {
+      law = stands.law;
+      reflects = record {
+        names = old.names;
+        checked = old.checked;
+        sent = old.sent;
+        made = old.made;
+        stopped = old.stopped;
+        runs = λ on.
+          let runs = old.runs on in
+          let m = runs.mirrors in
+          record {
+            reads = runs.reads;
+            mirrors = record {
+              sealed = m.sealed;
+              small = m.small;
+              sizes = m.sizes;
+              numbers = m.numbers;
+              kept = m.kept;
+              up = m.up;
+              taken = m.taken;
+              flights = m.flights;
+              timers = alike_weaken (Waits s.end (sealed_of s.end.key s.settings h) s.conn held (clock_of h)) (Waits s.end (sealed_of s.end.key s.settings h) s.conn left (clock_of h)) s.flights
+                (timing_of s.end.key s.settings h).timers
+                (λ f t w. record {
+                  seq = w.seq;
+                  tries = w.tries;
+                  since = w.since;
+                  resent = w.resent;
+                  waits = from_conn s.conn left (item_of s.conn t) (subst (λ l. Contains l (item_of s.conn t)) (sym same) (to_conn s.conn held (item_of s.conn t) w.waits refl));
+                  soon = w.soon;
+                  same = w.same;
+                }) m.timers;
+              alone = λ y at mine. m.alone y (from_conn s.conn held y (subst (λ l. Contains l y) same (to_conn s.conn left y at mine))) mine;
+              window = m.window;
+              depth = m.depth;
+              least = m.least;
+              asked = m.asked;
+              asked_soon = m.asked_soon;
+            };
+            settled = runs.settled;
+          };
+        still = old.still;
+      };
+    }

@@ -3,3 +3,4 @@ pub mod Calls
 pub mod Entries
 pub mod Standing
 pub mod Views
+pub mod Laws

@@ -135,6 +135,10 @@ IsUntouched end h = Every (IsBefore end) h
 abbrev pub StandsOn : ℕ → Sending → List Item → Sending → List Item → (Entry → Type 0) → Type 0
 StandsOn now old held new left Is = (h : List Entry) (e : Entry) → clock_of h ≡ now → Is e → Stands old held h → Stands new left (h ++ e ∷ [])
 
+-- nothing waits for a connection
+abbrev pub HoldsNone : ℕ → List Item → Type 0
+HoldsNone conn held = (y : Item) → Contains held y → y.conn ≡ conn → ⊥
+
 -- ---- what follows
 
 -- the numbers of a connection that wait, with their dues

@@ -4,6 +4,7 @@
 
 mod answers;
 mod flight;
+mod laws;
 mod listing;
 mod making;
 mod numbers;
@@ -14,5 +15,8 @@ mod sender;
 mod ticks;
 mod waiting;
 
+pub use laws::{
+    keeps_law, new_stands, others_pass, others_wait, over_tells, stays_armed, ticks_stand,
+};
 pub use send_no::SendNo;
 pub use sender::Sender;

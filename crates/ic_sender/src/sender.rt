@@ -5,7 +5,7 @@ ghost use Rattle.ic_base.specs.Settings.{AreChecked};
 ghost use Rattle.ic_expire.specs.declared.item.Item.{Item};
 ghost use Rattle.ic_law.specs.declared.history.Entry.{Entry};
 ghost use Rattle.ic_sender.specs.Sending.{begun, freed_window, flight_at};
-ghost use Rattle.ic_sender.specs.Standing.{IsOver, IsUntouched, Stands};
+ghost use Rattle.ic_sender.specs.Standing.{HoldsNone, IsNamed, IsOver, IsUntouched, Stands};
 
 use crate::flight::{Flight, find};
 use crate::numbers::{Asked, Numbers};
@@ -75,6 +75,30 @@ impl Model for Sender {
     ghost invariant = { λ s. IsSound s.settings s.opened s.ring s.numbers s.flights.items s.asked };
 }
 
+/// Does nothing. Its clauses: numbers of 32 bits are such.
+fn are_words(session: u32, query: u32, motion: u32, send_slice: u32, recv_slice: u32)
+    ensures session { session < 2 ^ 32 }
+    ensures query { query < 2 ^ 32 }
+    ensures motion { motion < 2 ^ 32 }
+    ensures send_slice { send_slice < 2 ^ 32 }
+    ensures recv_slice { recv_slice < 2 ^ 32 }
+{}
+
+/// Does nothing. Its clause: the names of an end fit the words of headers.
+fn named(end: &ConnEnd)
+    ensures { IsNamed end.now }
+{
+    are_words(
+        end.key.session,
+        end.key.query,
+        end.key.motion,
+        end.send_slice,
+        end.recv_slice,
+    );
+    let _from = end.key.from.number();
+    let _to = end.key.to.number();
+}
+
 impl Sender {
     /// The sending end of a connection of which nothing was put. `conn` is its number in its query's queue. Takes the
     /// room for all packets that it may keep: `send_depth` times `packet` bytes, and `packet` for the one that is being
@@ -86,8 +110,10 @@ impl Sender {
         settings: &Settings,
     ) -> Result<Sender, AllocError>
         requires { AreChecked settings.now }
-        ensures { IfOk result (λ s. s ≡ begun end conn settings.now) }
+        ensures begun { IfOk result (λ s. s ≡ begun end conn settings.now) }
+        ensures stands { IfOk result (λ s. (held : List Item) (h : List Entry) → HoldsNone conn held → IsUntouched end h → Stands s held h) }
     {
+        named(&end);
         let opened = Vec::with_capacity(alloc, settings.packet as usize)?;
         let ring = SendRing::with_depth(alloc, settings.send_depth, settings.packet)?;
         let flights = Vec::with_capacity(alloc, settings.send_depth as usize)?;
