@@ -52,7 +52,7 @@ pub refuses_heard : (settings : Settings) (end : ConnEnd) (h : List Entry) (d : 
 refuses_heard settings end h d p reply reads answers = record {
   put = λ chunk ask kept. absurd (let bad : Arrive d ≡ Put end.key chunk = ask in cc);
   finish = λ ask kept. absurd (let bad : Arrive d ≡ Finish end.key = ask in cc);
-  heard = λ other q ask directed reads_other key kept.
+  heard = λ other q ask directed reads_other back key kept.
     let same : d ≡ other = cc in
     let both : Some p ≡ Some q = sym reads ∙ ap packet_of same ∙ reads_other in
     let one : p ≡ q = cc in

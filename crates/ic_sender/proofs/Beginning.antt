@@ -167,5 +167,5 @@ others_pass s held h e silent old =
     (λ here. record {
       put = λ chunk ask kept. absurd (kept (silent.put here chunk ask));
       finish = λ ask kept. absurd (kept (silent.finish here ask));
-      heard = λ d p ask directed reads key kept. absurd (kept (silent.heard here d p ask directed reads key));
+      heard = λ d p ask directed reads back key kept. absurd (kept (silent.heard here d p ask directed reads back key));
     }) old

@@ -16,7 +16,7 @@ use Rattle.ic_law.specs.declared.history.Arrived.TheVariants.{Handled, Dropped}
 use Rattle.ic_law.specs.declared.history.DropCause.TheVariants as cause
 use Rattle.ic_law.specs.declared.history.HubNo.TheVariants as no
 use Rattle.ic_law.specs.declared.history.Entry.{Entry}
-use Rattle.ic_law.specs.Packets.{Packet, packet_of, key_of}
+use Rattle.ic_law.specs.Packets.{Packet, packet_of, key_of, goes_forth}
 use Rattle.ic_law.specs.History.{emits, rows_in, puts, finishes, hears}
 use Rattle.ic_law.specs.Numbers.{IsIncreasingFrom}
 use Rattle.ic_law.specs.Points.{IsDirected, IsHere}
@@ -130,4 +130,5 @@ pub record IsSilent (end : ConnEnd) (before : List Entry) (e : Entry) : Type 0 w
   pub still : ticks_by e.reply ≡ 0
   pub put : IsHere end before → (chunk : List ℕ) → e.ask ≡ Put end.key chunk → e.reply ≡ Memory
   pub finish : IsHere end before → e.ask ≡ Finish end.key → e.reply ≡ Memory
-  pub heard : IsHere end before → (d : Datagram) (p : Packet) → e.ask ≡ Arrive d → IsDirected false d end.key → packet_of d ≡ Some p → key_of p.head ≡ end.key → e.reply ≡ Memory
+  pub heard : IsHere end before → (d : Datagram) (p : Packet) → e.ask ≡ Arrive d → IsDirected false d end.key → packet_of d ≡ Some p → goes_forth p.head.flags ≡ false → key_of p.head ≡ end.key
+      → e.reply ≡ Memory
