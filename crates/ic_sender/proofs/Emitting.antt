@@ -88,7 +88,7 @@ waiting_has conn due (m ∷ numbers) held n h =
       | inr later ↦ waiting_has conn due numbers (with_item x held) n later
     ]
 
-waiting_is : (conn due : ℕ) (numbers : List ℕ) (held : List Item) (y : Item) → Contains (waiting conn due numbers held) y
+pub waiting_is : (conn due : ℕ) (numbers : List ℕ) (held : List Item) (y : Item) → Contains (waiting conn due numbers held) y
     → Contains held y ⊎ ((n : ℕ) × Contains numbers n × (y ≡ record { due = due; conn = conn; seq = n }))
 waiting_is conn due [] held y h = inl h
 waiting_is conn due (m ∷ numbers) held y h =

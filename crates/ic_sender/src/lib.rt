@@ -20,3 +20,6 @@ pub use laws::{
 };
 pub use send_no::SendNo;
 pub use sender::Sender;
+
+#[cfg(test)]
+mod tests;
