@@ -53,10 +53,10 @@ refuses_heard settings end h d p reply reads answers = record {
   put = λ chunk ask kept. absurd (let bad : Arrive d ≡ Put end.key chunk = ask in cc);
   finish = λ ask kept. absurd (let bad : Arrive d ≡ Finish end.key = ask in cc);
   heard = λ other q ask directed reads_other back key kept.
-    let same : d ≡ other = cc in
-    let both : Some p ≡ Some q = sym reads ∙ ap packet_of same ∙ reads_other in
-    let one : p ≡ q = cc in
-    subst (λ x. AnswersHeard end h x reply) one (answers kept);
+      let same : d ≡ other = cc in
+      let both : Some p ≡ Some q = sym reads ∙ ap packet_of same ∙ reads_other in
+      let one : p ≡ q = cc in
+      subst (λ x. AnswersHeard end h x reply) one (answers kept);
 }
 
 -- ---- an answer that is heard
@@ -150,9 +150,9 @@ ready_heard s held h d p a ds now is_now reads key is running up taken old =
         consumed = consumed;
       };
       mirrors = subst (λ l. Mirrors m left l (moved c h e (timing_of c s.settings h)) (clock_of nowh)) (sym packets)
-        (subst (λ t. Mirrors m left (sealed_of c s.settings h) t (clock_of nowh)) (sym timing)
-        (subst (λ n. Mirrors m left (sealed_of c s.settings h) (plain (run_with a s) s.acked now (timing_of c s.settings h) p a.lists) n) (sym clock)
-        (mirrors_heard s held (sealed_of c s.settings h) (timing_of c s.settings h) now p a is up taken old.sent.within before)));
+          (subst (λ t. Mirrors m left (sealed_of c s.settings h) t (clock_of nowh)) (sym timing)
+          (subst (λ n. Mirrors m left (sealed_of c s.settings h) (plain (run_with a s) s.acked now (timing_of c s.settings h) p a.lists) n) (sym clock)
+          (mirrors_heard s held (sealed_of c s.settings h) (timing_of c s.settings h) now p a is up taken old.sent.within before)));
       sent = subst (λ l. SentUpto l (rows_emitted_of c h) s.sent) (sym packets) old.sent;
       made = old.made;
     }
@@ -314,9 +314,9 @@ pub disorder_run : (s : Sending) (seq extra : ℕ) (body : List ℕ) → 0 < len
 disorder_run s seq extra body some_ whole fine =
     at_most (from_be_bytes w32 (take 4 body) - 1) s.sent
     (λ beyond. fine (inr (inr (inl (λ inc.
-      let first = first_last body some_ whole inc in
-      let before = at_most extra s.sent (λ lt. fine (inr (inl lt))) in
-      fine (inr (inr (inr (omega (arith, beyond, first, before))))))))))
+    let first = first_last body some_ whole inc in
+    let before = at_most extra s.sent (λ lt. fine (inr (inl lt))) in
+    fine (inr (inr (inr (omega (arith, beyond, first, before))))))))))
 
 disorder_judged : (s : Sending) (p : Packet) (seq extra : ℕ) (body : List ℕ) → 0 < length body → length body % 4 ≡ 0 → p.head.flags ≡ Disorder → p.head.seq ≡ seq → p.head.extra ≡ extra → p.body ≡ body
     → IsJudged s p (missing_of seq body) (IsStrayDisorder s seq extra body)

@@ -87,7 +87,7 @@ begun_none end conn settings held names checked alone = record {
     runs = λ on. record {
       reads = record { finished = refl; opened = λ still. refl; least = inl refl; most = let low = checked.least_packet in omega (arith, low); run = refl; consumed = refl };
       mirrors = let t = timing_of-none end.key settings in
-        begun_mirrors end conn settings held [] (timing_of end.key settings []) (clock_of []) checked alone refl (ap (λ (x : Timing). x.window) t) (ap (λ (x : Timing). x.timers) t) (ap (λ (x : Timing). x.asked) t);
+          begun_mirrors end conn settings held [] (timing_of end.key settings []) (clock_of []) checked alone refl (ap (λ (x : Timing). x.window) t) (ap (λ (x : Timing). x.timers) t) (ap (λ (x : Timing). x.asked) t);
       settled = begun_settled end conn settings checked;
     };
     still = λ off. absurd (let bad : false ≡ true = off in cc);

@@ -135,17 +135,17 @@ pub numbers_due : (conn now acked : ℕ) (held : List Item) (ts : List Timer) (n
 numbers_due conn now acked held ts numbers inc inc_numbers to from waits alone =
     increasing_same 1 numbers (due_numbers now ts) inc_numbers (increasing_less 1 (acked + 1) (due_numbers now ts) (omega arith) (increasing_filter (λ (t : Timer). t.seq) (is_due now) (acked + 1) ts inc))
     (λ n at.
-      let w = (due_gives held now (record { conn = conn; seq = n })).0 (to n at) in
-      let x = alone (record { due = w.0; conn = conn; seq = n }) w.1 refl in
-      let seq : n ≡ x.0.seq = ap (λ (z : Item). z.seq) x.2 in
-      let due : w.0 ≡ x.0.due = ap (λ (z : Item). z.due) x.2 in
-      let pass = filter_has (is_due now) ts x.0 x.1 (le-leb x.0.due now (omega (arith, due, w.2))) in
-      subst (Contains (due_numbers now ts)) (sym seq) (Contains-map (λ (t : Timer). t.seq) (filter (is_due now) ts) x.0 pass))
+    let w = (due_gives held now (record { conn = conn; seq = n })).0 (to n at) in
+    let x = alone (record { due = w.0; conn = conn; seq = n }) w.1 refl in
+    let seq : n ≡ x.0.seq = ap (λ (z : Item). z.seq) x.2 in
+    let due : w.0 ≡ x.0.due = ap (λ (z : Item). z.due) x.2 in
+    let pass = filter_has (is_due now) ts x.0 x.1 (le-leb x.0.due now (omega (arith, due, w.2))) in
+    subst (Contains (due_numbers now ts)) (sym seq) (Contains-map (λ (t : Timer). t.seq) (filter (is_due now) ts) x.0 pass))
     (λ n at.
-      let w = map-Contains (λ (t : Timer). t.seq) (filter (is_due now) ts) n at in
-      let x = in_filter (is_due now) ts w.0 w.1 in
-      let le = leb-true w.0.due now x.1 in
-      from n ((due_gives held now (record { conn = conn; seq = n })).1 (w.0.due, subst (λ (k : ℕ). Contains held (record { due = w.0.due; conn = conn; seq = k })) (sym w.2) (waits w.0 x.0), le)))
+    let w = map-Contains (λ (t : Timer). t.seq) (filter (is_due now) ts) n at in
+    let x = in_filter (is_due now) ts w.0 w.1 in
+    let le = leb-true w.0.due now x.1 in
+    from n ((due_gives held now (record { conn = conn; seq = n })).1 (w.0.due, subst (λ (k : ℕ). Contains held (record { due = w.0.due; conn = conn; seq = k })) (sym w.2) (waits w.0 x.0), le)))
 
 -- ---- what waits for one connection
 
@@ -168,7 +168,7 @@ longer_has now s [] held n at = absurd (Contains-none n at)
 longer_has now s (m ∷ numbers) held n at =
     elim (head_or_tail m numbers n at) [
       | inl same ↦ longer_keeps now s numbers (with_item (later_item now s m) held) (later_item now s n)
-        (subst (λ k. Contains (with_item (later_item now s m) held) (later_item now s k)) same ((put_holds held (later_item now s m) (later_item now s m)).1 (inl refl)))
+          (subst (λ k. Contains (with_item (later_item now s m) held) (later_item now s k)) same ((put_holds held (later_item now s m) (later_item now s m)).1 (inl refl)))
       | inr later ↦ longer_has now s numbers (with_item (later_item now s m) held) n later
     ]
 

@@ -88,7 +88,7 @@ waiting_has conn due (m ∷ numbers) held n h =
       | inr later ↦ waiting_has conn due numbers (with_item x held) n later
     ]
 
-waiting_is : (conn due : ℕ) (numbers : List ℕ) (held : List Item) (y : Item) → Contains (waiting conn due numbers held) y
+pub waiting_is : (conn due : ℕ) (numbers : List ℕ) (held : List Item) (y : Item) → Contains (waiting conn due numbers held) y
     → Contains held y ⊎ ((n : ℕ) × Contains numbers n × (y ≡ record { due = due; conn = conn; seq = n }))
 waiting_is conn due [] held y h = inl h
 waiting_is conn due (m ∷ numbers) held y h =
@@ -276,13 +276,13 @@ mirrors_after m held packets t clock mirrors le =
       up = omega (arith, mirrors.up);
       taken = mirrors.taken;
       flights = map-append (λ (f : Flight). f.seq) m.flights (map (flight_of m.end clock) (rows_next m))
-        ∙ ap (λ l. l ++ map (λ (f : Flight). f.seq) (map (flight_of m.end clock) (rows_next m))) mirrors.flights
-        ∙ ap (λ l. numbers_behind m.acked (m.sent - m.acked) ++ l) (numbers_at m.end clock (rows_next m) ∙ seqs)
-        ∙ ap (λ b. numbers_behind m.acked (m.sent - m.acked) ++ numbers_behind b n) (let e : m.sent ≡ m.acked + (m.sent - m.acked) = omega (arith, mirrors.up) in e)
-        ∙ sym (behind-append m.acked (m.sent - m.acked) n)
-        ∙ ap (numbers_behind m.acked) (let e : (m.sent - m.acked) + n ≡ m.sent + n - m.acked = omega (arith, mirrors.up) in e);
+          ∙ ap (λ l. l ++ map (λ (f : Flight). f.seq) (map (flight_of m.end clock) (rows_next m))) mirrors.flights
+          ∙ ap (λ l. numbers_behind m.acked (m.sent - m.acked) ++ l) (numbers_at m.end clock (rows_next m) ∙ seqs)
+          ∙ ap (λ b. numbers_behind m.acked (m.sent - m.acked) ++ numbers_behind b n) (let e : m.sent ≡ m.acked + (m.sent - m.acked) = omega (arith, mirrors.up) in e)
+          ∙ sym (behind-append m.acked (m.sent - m.acked) n)
+          ∙ ap (numbers_behind m.acked) (let e : (m.sent - m.acked) + n ≡ m.sent + n - m.acked = omega (arith, mirrors.up) in e);
       timers = subst (λ l. Alike (Waits m.end packets m.conn l clock) (m.flights ++ map (flight_of m.end clock) (rows_next m)) (t.timers ++ map (fresh_timer clock m.window) fresh)) (sym later)
-        (subst (λ l. Alike (Waits m.end packets m.conn (waiting m.conn due fresh held) clock) (m.flights ++ map (flight_of m.end clock) l) (t.timers ++ map (fresh_timer clock m.window) fresh)) (sym rows) both);
+          (subst (λ l. Alike (Waits m.end packets m.conn (waiting m.conn due fresh held) clock) (m.flights ++ map (flight_of m.end clock) l) (t.timers ++ map (fresh_timer clock m.window) fresh)) (sym rows) both);
       alone = λ y at mine. elim (waiting_is m.conn due fresh held y (subst (λ l. Contains l y) later at)) [
         | inl before ↦ let w = mirrors.alone y before mine in (w.0, Contains-append_left t.timers (map (fresh_timer clock m.window) fresh) w.0 w.1, w.2)
         | inr now ↦ (

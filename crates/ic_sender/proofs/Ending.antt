@@ -48,10 +48,10 @@ ends m p held now before ds after q left plans sent state waits =
     record {
       datagrams = sent ∙ ap (λ l. before ++ map (λ (f : Flight). f.datagram) l) plans.flights ∙ ap (λ l. before ++ l) (map_map (λ (f : Flight). f.datagram) (flight_of m.end now) rows);
       state = state ∙ ap (λ n. ended m (m.sent + n) (m.flights ++ p.flights.items) (option_map asked_of p.asked)) plans.count
-        ∙ ap (λ l. ended m (m.sent + count_next m) (m.flights ++ l) (option_map asked_of p.asked)) plans.flights
-        ∙ ap (λ a. ended m (m.sent + count_next m) (m.flights ++ map (flight_of m.end now) rows) a) plans.asks;
+          ∙ ap (λ l. ended m (m.sent + count_next m) (m.flights ++ l) (option_map asked_of p.asked)) plans.flights
+          ∙ ap (λ a. ended m (m.sent + count_next m) (m.flights ++ map (flight_of m.end now) rows) a) plans.asks;
       waits = waits ∙ ap (λ n. record q { held = waiting m.conn n (map (λ (f : Flight). f.seq) p.flights.items) held }) plans.due
-        ∙ ap (λ l. record q { held = waiting m.conn (now + law.wait_in m.window 0) l held }) seqs;
+          ∙ ap (λ l. record q { held = waiting m.conn (now + law.wait_in m.window 0) l held }) seqs;
     }
 
 -- what it emits may wait

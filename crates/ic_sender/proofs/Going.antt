@@ -52,9 +52,9 @@ goes_out m held h e again ready old still are =
       still = still;
       rows_are = ap (flat_map (rows_in m.end.key)) are ∙ rows_again m.end rows ready.names travel;
       made = λ d p at reads. let w = rows_made m.end rows d ready.names travel (subst (λ l. Contains l d) are at) in
-        let both : w.0 ∷ [] ≡ p ∷ [] = sym w.1 ∙ reads in
-        let same : w.0 ≡ p = cc in
-        w.3 ∙ ap (row_datagram m.end) same;
+          let both : w.0 ∷ [] ≡ p ∷ [] = sym w.1 ∙ reads in
+          let same : w.0 ≡ p = cc in
+          w.3 ∙ ap (row_datagram m.end) same;
       queries = ap (flat_map (queries_in m.end.key)) are ∙ rows_ask_nothing m.end rows ready.names travel;
     }
 

@@ -189,12 +189,12 @@ heard_pairs s held packets t clock run p a is old =
     let S = Waits s.end packets s.conn left clock in
     alike_map (λ f x. R f x × Contains fs f × Contains ts x) S (λ f. marked a.lists (named a.names f)) (λ x. marked_in listed (named_in p x)) fs ts
     (λ f x w.
-      let high = lt_of run x.seq (in_filter (λ (y : Timer). nat_lt run y.seq) t.timers x w.2).1 in
-      let here : S f x = record { seq = w.0.seq; tries = w.0.tries; since = w.0.since; resent = w.0.resent; waits = still_waits s.conn run held x high w.0.waits; soon = w.0.soon; same = w.0.same } in
-      let pair = named_pair s.end packets s.conn left clock p a f x is here in
-      let among : is_among a.lists (named a.names f).seq ≡ list_any (λ n. n == (named_in p x).seq) listed =
-      ap (is_among a.lists) (sym pair.seq) ∙ listed_same ts a.lists (named_in p x).seq (ap (stands_among ts) (timer_seq p x) ∙ timer_among ts x w.2) in
-      marked_pair s.end packets s.conn left clock a.lists listed (named a.names f) (named_in p x) among pair)
+    let high = lt_of run x.seq (in_filter (λ (y : Timer). nat_lt run y.seq) t.timers x w.2).1 in
+    let here : S f x = record { seq = w.0.seq; tries = w.0.tries; since = w.0.since; resent = w.0.resent; waits = still_waits s.conn run held x high w.0.waits; soon = w.0.soon; same = w.0.same } in
+    let pair = named_pair s.end packets s.conn left clock p a f x is here in
+    let among : is_among a.lists (named a.names f).seq ≡ list_any (λ n. n == (named_in p x).seq) listed =
+    ap (is_among a.lists) (sym pair.seq) ∙ listed_same ts a.lists (named_in p x).seq (ap (stands_among ts) (timer_seq p x) ∙ timer_among ts x w.2) in
+    marked_pair s.end packets s.conn left clock a.lists listed (named a.names f) (named_in p x) among pair)
     (alike_in R fs ts (kept_pairs s held packets t clock run old))
   where
     timer_seq : (p : Packet) (x : Timer) → (named_in p x).seq ≡ x.seq
@@ -231,26 +231,25 @@ mirrors_heard s held packets t clock p a is up taken le old =
       small = old.small;
       sizes = old.sizes;
       numbers = map_filter (nat_lt run) number_of s.kept ∙ ap (filter (nat_lt run)) old.numbers
-        ∙ behind_above run s.acked (s.sealed - s.acked) low (omega (arith, up, le, old.sealed)) ∙ ap (numbers_behind run) (let e : s.acked + (s.sealed - s.acked) - run ≡ s.sealed - run = omega (arith, old.up, le, old.sealed) in e);
+          ∙ behind_above run s.acked (s.sealed - s.acked) low (omega (arith, up, le, old.sealed)) ∙ ap (numbers_behind run) (let e : s.acked + (s.sealed - s.acked) - run ≡ s.sealed - run = omega (arith, old.up, le, old.sealed) in e);
       kept = λ n above high. ap row_of (find_filter number_of (nat_lt run) s.kept n (lt_yes run n above)) ∙ old.kept n (omega (arith, above, low)) high;
       up = up;
       taken = taken;
       flights = map_map (λ (f : Flight). f.seq) (λ f. marked a.lists (named a.names f)) fs
-        ∙ map_same (λ f. (marked a.lists (named a.names f)).seq) (λ (f : Flight). f.seq) fs (λ f at. marked_seq a.lists (named a.names f) ∙ named_seq a.names f)
-        ∙ map_filter (nat_lt run) (λ (f : Flight). f.seq) s.flights ∙ ap (filter (nat_lt run)) old.flights
-        ∙ behind_above run s.acked (s.sent - s.acked) low (omega (arith, up)) ∙ ap (numbers_behind run) (let e : s.acked + (s.sent - s.acked) - run ≡ s.sent - run = omega (arith, old.up) in e);
+          ∙ map_same (λ f. (marked a.lists (named a.names f)).seq) (λ (f : Flight). f.seq) fs (λ f at. marked_seq a.lists (named a.names f) ∙ named_seq a.names f)
+          ∙ map_filter (nat_lt run) (λ (f : Flight). f.seq) s.flights ∙ ap (filter (nat_lt run)) old.flights
+          ∙ behind_above run s.acked (s.sent - s.acked) low (omega (arith, up)) ∙ ap (numbers_behind run) (let e : s.acked + (s.sent - s.acked) - run ≡ s.sent - run = omega (arith, old.up) in e);
       timers = heard_pairs s held packets t clock run p a is old;
       alone = λ y at mine.
-        let w = (rest_holds held (is_upto s.conn run) y).0 at in
-        let x = old.alone y w.0 mine in
-        let beyond : nat_le x.0.seq run ≡ false = sym (ap (λ (z : Item). nat_le z.seq run) x.2) ∙ upto_of (y.conn == s.conn) (nat_le y.seq run) w.1 (ap (λ n. n == s.conn) mine ∙ same_number s.conn) in
-        let high = not_le_of x.0.seq run beyond in
-        let there = filter_has (λ (z : Timer). nat_lt run z.seq) t.timers x.0 x.1 (lt_yes run x.0.seq high) in
-        (
-          marked_in listed (named_in p x.0),
-          Contains-map (λ z. marked_in listed (named_in p z)) ts x.0 there,
-          x.2 ∙ item_same s.conn listed p x.0,
-        );
+          let w = (rest_holds held (is_upto s.conn run) y).0 at in
+          let x = old.alone y w.0 mine in
+          let beyond : nat_le x.0.seq run ≡ false = sym (ap (λ (z : Item). nat_le z.seq run) x.2) ∙ upto_of (y.conn == s.conn) (nat_le y.seq run) w.1 (ap (λ n. n == s.conn) mine ∙ same_number s.conn) in
+          let high = not_le_of x.0.seq run beyond in
+          let there = filter_has (λ (z : Timer). nat_lt run z.seq) t.timers x.0 x.1 (lt_yes run x.0.seq high) in (
+            marked_in listed (named_in p x.0),
+            Contains-map (λ z. marked_in listed (named_in p z)) ts x.0 there,
+            x.2 ∙ item_same s.conn listed p x.0,
+          );
       window = ap (lost_where listed) window ∙ lost_same s.end packets s.conn held clock fs ts a.lists (freed_window clock run s) (kept_pairs s held packets t clock run old);
       depth = least.0;
       least = least.1;

@@ -46,28 +46,28 @@ some_standing false true now s (Some a) eb ed h = (a, refl)
 pub are_armed : (s : Sending) (held : List Item) (h : List Entry) → Stands s held h → IsArmed s.settings s.end.key h (dues_held s.conn held) (query_at s.asked)
 are_armed s held h stands = record {
   packets = λ on seq low high.
-    let old = stands.reflects in
-    let runs = old.runs (on_of s held h old on) in
-    let m = runs.mirrors in
-    let at : Contains (map (λ (f : Flight). f.seq) s.flights) seq =
-    subst (λ l. Contains l seq) (sym m.flights) (behind_has s.acked (s.sent - s.acked) seq (omega (arith, low, runs.reads.run)) (omega (arith, high, sent_is s held h old, m.up))) in
-    let f = map-Contains (λ (x : Flight). x.seq) s.flights seq at in
-    let t = alike_flight (Waits s.end (sealed_of s.end.key s.settings h) s.conn held (clock_of h)) s.flights (timing_of s.end.key s.settings h).timers f.0 m.timers f.1 in
-    let number : t.0.seq ≡ seq = t.1.seq ∙ sym f.2 in
-    let mine = to_conn s.conn held (item_of s.conn t.0) t.1.waits refl in
-    (t.0.due, subst (λ n. Contains (dues_held s.conn held) (n, t.0.due)) number (Contains-map (λ (x : Item). (x.seq, x.due)) (held_of s.conn held) (item_of s.conn t.0) mine), t.1.soon);
+      let old = stands.reflects in
+      let runs = old.runs (on_of s held h old on) in
+      let m = runs.mirrors in
+      let at : Contains (map (λ (f : Flight). f.seq) s.flights) seq =
+      subst (λ l. Contains l seq) (sym m.flights) (behind_has s.acked (s.sent - s.acked) seq (omega (arith, low, runs.reads.run)) (omega (arith, high, sent_is s held h old, m.up))) in
+      let f = map-Contains (λ (x : Flight). x.seq) s.flights seq at in
+      let t = alike_flight (Waits s.end (sealed_of s.end.key s.settings h) s.conn held (clock_of h)) s.flights (timing_of s.end.key s.settings h).timers f.0 m.timers f.1 in
+      let number : t.0.seq ≡ seq = t.1.seq ∙ sym f.2 in
+      let mine = to_conn s.conn held (item_of s.conn t.0) t.1.waits refl in
+      (t.0.due, subst (λ n. Contains (dues_held s.conn held) (n, t.0.due)) number (Contains-map (λ (x : Item). (x.seq, x.due)) (held_of s.conn held) (item_of s.conn t.0) mine), t.1.soon);
   query_is = λ on still unsent.
-    let old = stands.reflects in
-    let runs = old.runs (on_of s held h old on) in
-    let m = runs.mirrors in
-    let e = sent_is s held h old in
-    let flying : s.sent ≤ s.acked = omega (arith, still, e, runs.reads.run) in
-    let more : s.sent < s.sealed = omega (arith, unsent, e, m.sealed) in
-    let none : capacity s ≡ 0 = no_room (s.sealed - s.sent) s.window.window (s.sent - s.acked) (capacity s) m.least (omega (arith, more)) (omega (arith, flying)) runs.settled.none in
-    let full : nat_lt 0 (capacity s) ≡ false = not_lt 0 (capacity s) (omega (arith, none)) in
-    let wants : (nat_le s.sent s.acked && nat_lt s.sent s.sealed) ≡ true = ap (λ b. b && nat_lt s.sent s.sealed) (le-leb s.sent s.acked flying) ∙ lt_yes s.sent s.sealed more in
-    let a = some_standing (nat_lt 0 (capacity s)) (nat_le s.sent s.acked && nat_lt s.sent s.sealed) 0 s s.asked full wants (runs.settled.query 0) in
-    (a.0.due, ap query_at a.1, m.asked_soon a.0 a.1);
+      let old = stands.reflects in
+      let runs = old.runs (on_of s held h old on) in
+      let m = runs.mirrors in
+      let e = sent_is s held h old in
+      let flying : s.sent ≤ s.acked = omega (arith, still, e, runs.reads.run) in
+      let more : s.sent < s.sealed = omega (arith, unsent, e, m.sealed) in
+      let none : capacity s ≡ 0 = no_room (s.sealed - s.sent) s.window.window (s.sent - s.acked) (capacity s) m.least (omega (arith, more)) (omega (arith, flying)) runs.settled.none in
+      let full : nat_lt 0 (capacity s) ≡ false = not_lt 0 (capacity s) (omega (arith, none)) in
+      let wants : (nat_le s.sent s.acked && nat_lt s.sent s.sealed) ≡ true = ap (λ b. b && nat_lt s.sent s.sealed) (le-leb s.sent s.acked flying) ∙ lt_yes s.sent s.sealed more in
+      let a = some_standing (nat_lt 0 (capacity s)) (nat_le s.sent s.acked && nat_lt s.sent s.sealed) 0 s s.asked full wants (runs.settled.query 0) in
+      (a.0.due, ap query_at a.1, m.asked_soon a.0 a.1);
 }
   where
     no_room : (unsent window flying room : ℕ) → 256 ≤ window → 0 < unsent → flying ≡ 0 → min unsent (room_of window flying room) ≡ 0 → room ≡ 0
@@ -162,39 +162,39 @@ others_wait s held left h same stands =
         made = old.made;
         stopped = old.stopped;
         runs = λ on.
-          let runs = old.runs on in
-          let m = runs.mirrors in
-          record {
-            reads = runs.reads;
-            mirrors = record {
-              sealed = m.sealed;
-              small = m.small;
-              sizes = m.sizes;
-              numbers = m.numbers;
-              kept = m.kept;
-              up = m.up;
-              taken = m.taken;
-              flights = m.flights;
-              timers = alike_weaken (Waits s.end (sealed_of s.end.key s.settings h) s.conn held (clock_of h)) (Waits s.end (sealed_of s.end.key s.settings h) s.conn left (clock_of h)) s.flights
-                (timing_of s.end.key s.settings h).timers
-                (λ f t w. record {
-                  seq = w.seq;
-                  tries = w.tries;
-                  since = w.since;
-                  resent = w.resent;
-                  waits = from_conn s.conn left (item_of s.conn t) (subst (λ l. Contains l (item_of s.conn t)) (sym same) (to_conn s.conn held (item_of s.conn t) w.waits refl));
-                  soon = w.soon;
-                  same = w.same;
-                }) m.timers;
-              alone = λ y at mine. m.alone y (from_conn s.conn held y (subst (λ l. Contains l y) same (to_conn s.conn left y at mine))) mine;
-              window = m.window;
-              depth = m.depth;
-              least = m.least;
-              asked = m.asked;
-              asked_soon = m.asked_soon;
+            let runs = old.runs on in
+            let m = runs.mirrors in
+            record {
+              reads = runs.reads;
+              mirrors = record {
+                sealed = m.sealed;
+                small = m.small;
+                sizes = m.sizes;
+                numbers = m.numbers;
+                kept = m.kept;
+                up = m.up;
+                taken = m.taken;
+                flights = m.flights;
+                timers = alike_weaken (Waits s.end (sealed_of s.end.key s.settings h) s.conn held (clock_of h)) (Waits s.end (sealed_of s.end.key s.settings h) s.conn left (clock_of h)) s.flights
+                    (timing_of s.end.key s.settings h).timers
+                    (λ f t w. record {
+                      seq = w.seq;
+                      tries = w.tries;
+                      since = w.since;
+                      resent = w.resent;
+                      waits = from_conn s.conn left (item_of s.conn t) (subst (λ l. Contains l (item_of s.conn t)) (sym same) (to_conn s.conn held (item_of s.conn t) w.waits refl));
+                      soon = w.soon;
+                      same = w.same;
+                    }) m.timers;
+                alone = λ y at mine. m.alone y (from_conn s.conn held y (subst (λ l. Contains l y) same (to_conn s.conn left y at mine))) mine;
+                window = m.window;
+                depth = m.depth;
+                least = m.least;
+                asked = m.asked;
+                asked_soon = m.asked_soon;
+              };
+              settled = runs.settled;
             };
-            settled = runs.settled;
-          };
         still = old.still;
       };
     }

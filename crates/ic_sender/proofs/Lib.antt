@@ -17,3 +17,4 @@ mod Packets
 mod MayWaiting
 mod Ending
 mod WordLemmas
+mod LoneLemmas

@@ -64,7 +64,7 @@ may_next conn n due numbers q may = record {
 }
 
 -- what is kept of some numbers increases as they do, and is no more
-kept_increase : (kept : List RowPacket) (a k : ℕ) → IsIncreasingFrom (a + 1) (map (λ (p : RowPacket). p.seq) (rows_kept kept (numbers_behind a k))) × (length (rows_kept kept (numbers_behind a k)) ≤ k)
+pub kept_increase : (kept : List RowPacket) (a k : ℕ) → IsIncreasingFrom (a + 1) (map (λ (p : RowPacket). p.seq) (rows_kept kept (numbers_behind a k))) × (length (rows_kept kept (numbers_behind a k)) ≤ k)
 kept_increase kept a zero = (tt, omega arith)
 kept_increase kept a (suc k) = by (kept_at kept (a + 1)) refl (kept_increase kept (a + 1) k)
   where

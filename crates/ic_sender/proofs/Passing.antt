@@ -56,10 +56,10 @@ keeps_when s held h e law reflects refuses emits_due =
     let c = s.end.key in
     let now = h ++ e ∷ [] in
     let same : SameAgain c now = (λ d other p q at_d at_o reads_d reads_o numbers.
-      let there_p = flat_map-Contains (rows_in c) (emitted_of now) d p at_d (subst (λ l. Contains l p) (sym reads_d) (Contains-head p [])) in
-      let there_q = flat_map-Contains (rows_in c) (emitted_of now) other q at_o (subst (λ l. Contains l q) (sym reads_o) (Contains-head q [])) in
-      reflects.made d p at_d reads_d ∙ ap (row_datagram s.end) (same_packet (sealed_of c s.settings now) (rows_emitted_of c now) s.sent p q reflects.sent there_p there_q numbers)
-      ∙ sym (reflects.made other q at_o reads_o)) in
+    let there_p = flat_map-Contains (rows_in c) (emitted_of now) d p at_d (subst (λ l. Contains l p) (sym reads_d) (Contains-head p [])) in
+    let there_q = flat_map-Contains (rows_in c) (emitted_of now) other q at_o (subst (λ l. Contains l q) (sym reads_o) (Contains-head q [])) in
+    reflects.made d p at_d reads_d ∙ ap (row_datagram s.end) (same_packet (sealed_of c s.settings now) (rows_emitted_of c now) s.sent p q reflects.sent there_p there_q numbers)
+    ∙ sym (reflects.made other q at_o reads_o)) in
     let sends : Sends c now = record {
       packets = sealed_of c s.settings now;
       k = s.sent;
@@ -167,8 +167,8 @@ stays_ready s held h e running nothing still old =
         consumed = consumed_stays c h e nothing.hears_none ∙ runs.reads.consumed;
       };
       mirrors = subst (λ l. Mirrors s held l (moved c h e (timing_of c s.settings h)) (clock_of now)) (sym packets)
-        (subst (λ t. Mirrors s held (sealed_of c s.settings h) t (clock_of now)) (sym timing)
-        (subst (λ n. Mirrors s held (sealed_of c s.settings h) (timing_of c s.settings h) n) (sym clock) runs.mirrors));
+          (subst (λ t. Mirrors s held (sealed_of c s.settings h) t (clock_of now)) (sym timing)
+          (subst (λ n. Mirrors s held (sealed_of c s.settings h) (timing_of c s.settings h) n) (sym clock) runs.mirrors));
       sent = subst (λ l. SentUpto l (rows_emitted_of c h) s.sent) (sym packets) old.sent;
       made = old.made;
     }
@@ -225,18 +225,18 @@ reflects_stopped s m held left h e end settings sent off flights query now_off p
       names = subst IsNamed (sym end) old.names;
       checked = subst AreChecked (sym settings) old.checked;
       sent = subst (λ (x : ConnEnd). SentUpto (sealed_of x.key m.settings now) (rows_emitted_of x.key now) m.sent) (sym end)
-        (subst (λ x. SentUpto (sealed_of c x now) (rows_emitted_of c now) m.sent) (sym settings) (subst (λ k. SentUpto (sealed_of c s.settings now) (rows_emitted_of c now) k) (sym sent) all));
+          (subst (λ x. SentUpto (sealed_of c x now) (rows_emitted_of c now) m.sent) (sym settings) (subst (λ k. SentUpto (sealed_of c s.settings now) (rows_emitted_of c now) k) (sym sent) all));
       made = λ d p at reads.
-        let reads_s : rows_in c d ≡ p ∷ [] = ap (λ (x : ConnEnd). rows_in x.key d) (sym end) ∙ reads in
-        let is : d ≡ row_datagram s.end p = elim (Contains-append_cases (emitted_of h) (emits e) d (subst (λ l. Contains l d) (emitted_of-push h e) at)) [
-          | inl before ↦ old.made d p before reads_s
-          | inr here ↦ absurd (no_datagram (rows_in c) (emits e) d p passes.rows here reads_s)
-        ] in
-        is ∙ ap (λ (x : ConnEnd). row_datagram x p) (sym end);
+          let reads_s : rows_in c d ≡ p ∷ [] = ap (λ (x : ConnEnd). rows_in x.key d) (sym end) ∙ reads in
+          let is : d ≡ row_datagram s.end p = elim (Contains-append_cases (emitted_of h) (emits e) d (subst (λ l. Contains l d) (emitted_of-push h e) at)) [
+            | inl before ↦ old.made d p before reads_s
+            | inr here ↦ absurd (no_datagram (rows_in c) (emits e) d p passes.rows here reads_s)
+          ] in
+          is ∙ ap (λ (x : ConnEnd). row_datagram x p) (sym end);
       stopped = ap (λ (x : ConnEnd). stopped_of x.key now) end ∙ now_off ∙ sym off;
       runs = λ on. absurd (let bad : true ≡ false = sym off ∙ on in cc);
       still = λ is_off. subst (λ (x : ConnEnd). IsStill m (timing_of x.key m.settings now)) (sym end)
-        (subst (λ x. IsStill m (timing_of c x now)) (sym settings) (timing_stopped m c s.settings h e flights query now_off));
+          (subst (λ x. IsStill m (timing_of c x now)) (sym settings) (timing_stopped m c s.settings h e flights query now_off));
     }
 
 -- and emits what the law wants: nothing

@@ -67,8 +67,8 @@ mirrors_sealed s held packets t clock payload last opened finished old le small 
       small = small;
       sizes = all_both (IsPayload s.settings.packet) packets (one ∷ []) old.sizes (size, tt);
       numbers = map-append number_of s.kept (new ∷ []) ∙ ap (λ l. l ++ (s.sealed + 1) ∷ []) old.numbers
-        ∙ ap (λ n. numbers_behind s.acked (s.sealed - s.acked) ++ n ∷ []) (let e : s.sealed + 1 ≡ s.acked + (s.sealed - s.acked) + 1 = omega (arith, within) in e)
-        ∙ sym (behind-push s.acked (s.sealed - s.acked)) ∙ ap (numbers_behind s.acked) (let e : (s.sealed - s.acked) + 1 ≡ s.sealed + 1 - s.acked = omega (arith, within) in e);
+          ∙ ap (λ n. numbers_behind s.acked (s.sealed - s.acked) ++ n ∷ []) (let e : s.sealed + 1 ≡ s.acked + (s.sealed - s.acked) + 1 = omega (arith, within) in e)
+          ∙ sym (behind-push s.acked (s.sealed - s.acked)) ∙ ap (numbers_behind s.acked) (let e : (s.sealed - s.acked) + 1 ≡ s.sealed + 1 - s.acked = omega (arith, within) in e);
       kept = λ n low high. elim (cases_lt s.sealed n) [
         | inl beyond ↦ let is : s.sealed + 1 ≡ n = omega (arith, beyond, high) in subst (λ k. row_of (kept_at (s.kept ++ new ∷ []) k) ≡ row_at (slice_get (packets ++ one ∷ []) (k - 1)) k) is (last_one new one within)
         | inr before ↦ earlier new one n low before
@@ -77,15 +77,15 @@ mirrors_sealed s held packets t clock payload last opened finished old le small 
       taken = old.taken;
       flights = old.flights;
       timers = alike_weaken (Waits s.end packets s.conn held clock) (Waits s.end (packets ++ one ∷ []) s.conn held clock) s.flights t.timers
-        (λ f x w. record {
-          seq = w.seq;
-          tries = w.tries;
-          since = w.since;
-          resent = w.resent;
-          waits = w.waits;
-          soon = w.soon;
-          same = same_more s.end packets one (f.seq - 1) f.seq f.datagram w.same;
-        }) old.timers;
+          (λ f x w. record {
+            seq = w.seq;
+            tries = w.tries;
+            since = w.since;
+            resent = w.resent;
+            waits = w.waits;
+            soon = w.soon;
+            same = same_more s.end packets one (f.seq - 1) f.seq f.datagram w.same;
+          }) old.timers;
       alone = old.alone;
       window = old.window;
       depth = old.depth;
@@ -184,25 +184,25 @@ ready_fit s held h chunk ds running on least room old =
         consumed = consumed_stays c h e refl ∙ runs.reads.consumed;
       };
       mirrors = subst (λ l. Mirrors (record s { opened = s.opened ++ chunk }) held l (moved c h e (timing_of c s.settings h)) (clock_of now)) (sym packets)
-        (subst (λ t. Mirrors (record s { opened = s.opened ++ chunk }) held (sealed_of c s.settings h) t (clock_of now)) (sym timing)
-        (subst (λ n. Mirrors (record s { opened = s.opened ++ chunk }) held (sealed_of c s.settings h) (timing_of c s.settings h) n) (sym clock)
-        (record {
-          sealed = o.sealed;
-          small = o.small;
-          sizes = o.sizes;
-          numbers = o.numbers;
-          kept = o.kept;
-          up = o.up;
-          taken = o.taken;
-          flights = o.flights;
-          timers = o.timers;
-          alone = o.alone;
-          window = o.window;
-          depth = o.depth;
-          least = o.least;
-          asked = o.asked;
-          asked_soon = o.asked_soon;
-        })));
+          (subst (λ t. Mirrors (record s { opened = s.opened ++ chunk }) held (sealed_of c s.settings h) t (clock_of now)) (sym timing)
+          (subst (λ n. Mirrors (record s { opened = s.opened ++ chunk }) held (sealed_of c s.settings h) (timing_of c s.settings h) n) (sym clock)
+          (record {
+            sealed = o.sealed;
+            small = o.small;
+            sizes = o.sizes;
+            numbers = o.numbers;
+            kept = o.kept;
+            up = o.up;
+            taken = o.taken;
+            flights = o.flights;
+            timers = o.timers;
+            alone = o.alone;
+            window = o.window;
+            depth = o.depth;
+            least = o.least;
+            asked = o.asked;
+            asked_soon = o.asked_soon;
+          })));
       sent = subst (λ l. SentUpto l (rows_emitted_of c h) s.sent) (sym packets) old.sent;
       made = old.made;
     }
@@ -242,9 +242,9 @@ ready_seal s held h chunk ds running on least most small room old =
         consumed = consumed_stays c h e refl ∙ runs.reads.consumed;
       };
       mirrors = subst (λ l. Mirrors m held l (moved c h e (timing_of c s.settings h)) (clock_of now)) (sym packets)
-        (subst (λ t. Mirrors m held (sealed_of c s.settings h ++ one ∷ []) t (clock_of now)) (sym timing)
-        (subst (λ n. Mirrors m held (sealed_of c s.settings h ++ one ∷ []) (timing_of c s.settings h) n) (sym clock)
-        (mirrors_sealed s held (sealed_of c s.settings h) (timing_of c s.settings h) (clock_of h) s.opened false chunk s.finished runs.mirrors old.sent.within small size)));
+          (subst (λ t. Mirrors m held (sealed_of c s.settings h ++ one ∷ []) t (clock_of now)) (sym timing)
+          (subst (λ n. Mirrors m held (sealed_of c s.settings h ++ one ∷ []) (timing_of c s.settings h) n) (sym clock)
+          (mirrors_sealed s held (sealed_of c s.settings h) (timing_of c s.settings h) (clock_of h) s.opened false chunk s.finished runs.mirrors old.sent.within small size)));
       sent = subst (λ l. SentUpto l (rows_emitted_of c h) s.sent) (sym packets) (sent_grow (sealed_of c s.settings h) (one ∷ []) (rows_emitted_of c h) s.sent old.sent);
       made = old.made;
     }
@@ -281,9 +281,9 @@ ready_end s held h ds running on small old =
         consumed = consumed_stays c h e refl ∙ runs.reads.consumed;
       };
       mirrors = subst (λ l. Mirrors m held l (moved c h e (timing_of c s.settings h)) (clock_of now)) (sym packets)
-        (subst (λ t. Mirrors m held (sealed_of c s.settings h ++ one ∷ []) t (clock_of now)) (sym timing)
-        (subst (λ n. Mirrors m held (sealed_of c s.settings h ++ one ∷ []) (timing_of c s.settings h) n) (sym clock)
-        (mirrors_sealed s held (sealed_of c s.settings h) (timing_of c s.settings h) (clock_of h) (s.opened ++ spelled end_of_stream) true s.opened true runs.mirrors old.sent.within small size)));
+          (subst (λ t. Mirrors m held (sealed_of c s.settings h ++ one ∷ []) t (clock_of now)) (sym timing)
+          (subst (λ n. Mirrors m held (sealed_of c s.settings h ++ one ∷ []) (timing_of c s.settings h) n) (sym clock)
+          (mirrors_sealed s held (sealed_of c s.settings h) (timing_of c s.settings h) (clock_of h) (s.opened ++ spelled end_of_stream) true s.opened true runs.mirrors old.sent.within small size)));
       sent = subst (λ l. SentUpto l (rows_emitted_of c h) s.sent) (sym packets) (sent_grow (sealed_of c s.settings h) (one ∷ []) (rows_emitted_of c h) s.sent old.sent);
       made = old.made;
     }

@@ -87,7 +87,7 @@ pub ticks_as : (now : ℕ) (numbers : List ℕ) (s : Sending) → (resent : ℕ)
 ticks_as now [] s = (
   s.resent,
   queried_as now s s refl refl
-  ∙ ap (λ l. record s { flights = l; asked = option_map (asked_again now s.window) s.asked }) (sym (map_self (tried []) s.flights not_tried)),
+      ∙ ap (λ l. record s { flights = l; asked = option_map (asked_again now s.window) s.asked }) (sym (map_self (tried []) s.flights not_tried)),
 )
 ticks_as now (n ∷ numbers) s = (counted s.resent (length (n ∷ numbers)), queried_as now s (trying (n ∷ numbers) s) refl (waits_same (n ∷ numbers) s.window))
 
@@ -127,7 +127,7 @@ tried_pair now s packets held left numbers clock w f t window low high same amon
           since = old.since;
           resent = refl;
           waits = waits_to now s held left numbers same (record { due = now + wait_in w (t.tries + 1); conn = s.conn; seq = t.seq }) refl
-            (subst (Contains (waits_longer now s numbers (without (is_over now) held))) item (longer_has now s numbers (without (is_over now) held) f.seq (there e)));
+              (subst (Contains (waits_longer now s numbers (without (is_over now) held))) item (longer_has now s numbers (without (is_over now) held) f.seq (there e)));
           soon = waits_soon w (t.tries + 1) now;
           same = old.same;
         }
@@ -171,12 +171,12 @@ tried_pairs now s packets held left t clock numbers are low high same old =
     let R = Waits s.end packets s.conn held clock in
     alike_map (λ f x. R f x × Contains s.flights f × Contains t.timers x) (Waits s.end packets s.conn left now) (tried numbers) (tried_in now t.window) s.flights t.timers
     (λ f x w.
-      let among : is_among numbers f.seq ≡ is_due now x =
-      ap (λ l. is_among l f.seq) are ∙ ap (is_among (due_numbers now t.timers)) (sym w.0.seq)
-      ∙ passes_among (λ (y : Timer). y.seq) (is_due now) (s.acked + 1) t.timers x (timers_increase s packets held t clock old) w.2 in
-      let there : is_due now x ≡ true → Contains numbers f.seq = (λ e.
-        subst (λ l. Contains l f.seq) (sym are) (subst (Contains (due_numbers now t.timers)) w.0.seq (Contains-map (λ (y : Timer). y.seq) (filter (is_due now) t.timers) x (filter_has (is_due now) t.timers x w.2 e)))) in
-      tried_pair now s packets held left numbers clock t.window f x old.window low high same among there (find_itself (λ (g : Flight). g.seq) (s.acked + 1) s.flights f (flights_increase s packets held t clock old) w.1) w.0)
+    let among : is_among numbers f.seq ≡ is_due now x =
+    ap (λ l. is_among l f.seq) are ∙ ap (is_among (due_numbers now t.timers)) (sym w.0.seq)
+    ∙ passes_among (λ (y : Timer). y.seq) (is_due now) (s.acked + 1) t.timers x (timers_increase s packets held t clock old) w.2 in
+    let there : is_due now x ≡ true → Contains numbers f.seq = (λ e.
+    subst (λ l. Contains l f.seq) (sym are) (subst (Contains (due_numbers now t.timers)) w.0.seq (Contains-map (λ (y : Timer). y.seq) (filter (is_due now) t.timers) x (filter_has (is_due now) t.timers x w.2 e)))) in
+    tried_pair now s packets held left numbers clock t.window f x old.window low high same among there (find_itself (λ (g : Flight). g.seq) (s.acked + 1) s.flights f (flights_increase s packets held t clock old) w.1) w.0)
     (alike_in R s.flights t.timers old.timers)
 
 -- all of them are among the timers
@@ -240,12 +240,11 @@ mirrors_ticked now s packets held left t clock numbers resent are low high same 
             let seq : n ≡ f.0.seq = w.2 ∙ f.2.seq in
             let found : flight_at s.flights n ≡ Some f.0 = ap (flight_at s.flights) seq ∙ find_itself (λ (g : Flight). g.seq) (s.acked + 1) s.flights f.0 (flights_increase s packets held t clock old) f.1 in
             let made : tried_in now t.window w.0 ≡ record w.0 { due = now + wait_in t.window (w.0.tries + 1); tries = w.0.tries + 1; resent = true } =
-            ap (λ b. cond b (record w.0 { due = now + wait_in t.window (w.0.tries + 1); tries = w.0.tries + 1; resent = true }) w.0) x.1 in
-            (
+            ap (λ b. cond b (record w.0 { due = now + wait_in t.window (w.0.tries + 1); tries = w.0.tries + 1; resent = true }) w.0) x.1 in (
               tried_in now t.window w.0,
               Contains-map (tried_in now t.window) t.timers w.0 x.0,
               again.2 ∙ ap (λ o. item_for (now + wait_in s.window (tries_of o + 1)) n) found ∙ ap (λ k. item_for (now + wait_in s.window (k + 1)) n) (sym f.2.tries)
-              ∙ ap (λ v. item_for (now + wait_in v (w.0.tries + 1)) n) (sym old.window) ∙ ap (λ k. item_for (now + wait_in t.window (w.0.tries + 1)) k) w.2 ∙ ap (item_of s.conn) (sym made),
+                  ∙ ap (λ v. item_for (now + wait_in v (w.0.tries + 1)) n) (sym old.window) ∙ ap (λ k. item_for (now + wait_in t.window (w.0.tries + 1)) k) w.2 ∙ ap (item_of s.conn) (sym made),
             )
       ];
       window = ap (λ l. lost_where l t.window) (sym are) ∙ ap (lost_where numbers) old.window;
@@ -282,7 +281,7 @@ settled_ticked now s numbers resent least settled =
     record {
       none = fewer (s.sealed - s.sent) s.window.window v.window (s.sent - s.acked) (capacity s) less settled.none;
       query = λ later. asked_still (nat_lt 0 (capacity s)) (nat_le s.sent s.acked && nat_lt s.sent s.sealed) later now v s.window s.asked
-        (any_window (nat_lt 0 (capacity s)) (nat_le s.sent s.acked && nat_lt s.sent s.sealed) later s.window v s.asked (settled.query later));
+          (any_window (nat_lt 0 (capacity s)) (nat_le s.sent s.acked && nat_lt s.sent s.sealed) later s.window v s.asked (settled.query later));
     }
   where
     fewer : (unsent a b flying room : ℕ) → b ≤ a → min unsent (room_of a flying room) ≡ 0 → min unsent (room_of b flying room) ≡ 0
@@ -321,8 +320,8 @@ ready_ticked s held left h ds now numbers resent running is_now are same old =
         consumed = consumed_stays c h e refl ∙ runs.reads.consumed;
       };
       mirrors = subst (λ l. Mirrors m left l (timing_ticked (clock_of (h ++ e ∷ [])) t) (clock_of (h ++ e ∷ []))) (sym packets)
-        (subst (λ n. Mirrors m left (sealed_of c s.settings h) (timing_ticked n t) n) (sym is_now)
-        (mirrors_ticked now s (sealed_of c s.settings h) held left t (clock_of h) numbers resent are range.0 range.1 same runs.mirrors));
+          (subst (λ n. Mirrors m left (sealed_of c s.settings h) (timing_ticked n t) n) (sym is_now)
+          (mirrors_ticked now s (sealed_of c s.settings h) held left t (clock_of h) numbers resent are range.0 range.1 same runs.mirrors));
       sent = subst (λ l. SentUpto l (rows_emitted_of c h) s.sent) (sym packets) old.sent;
       made = old.made;
     }

@@ -118,7 +118,18 @@ impl Sender {
             consumed: self.numbers.consumed.max(answer.consumed),
         };
         let depth = self.settings.receive_depth;
-        let plan = plan_end(alloc, &self.end, &self.ring, None, &numbers, &window, depth, asked, now, &mut datagrams)?;
+        let plan = plan_end(
+            alloc,
+            &self.end,
+            &self.ring,
+            None,
+            &numbers,
+            &window,
+            depth,
+            asked,
+            now,
+            &mut datagrams,
+        )?;
         self.flights.reserve(plan.flights.len())?;
         expiry.cut(self.conn, run);
         let _freed = self.ring.acked(run);
@@ -154,7 +165,14 @@ impl Sender {
         self.ack(alloc, seq, extra, now, expiry)
     }
 
-    fn ack(&mut self, alloc: Global, seq: u32, extra: u32, now: u64, expiry: &mut Expiry) -> Result<Datagrams, SendNo>
+    fn ack(
+        &mut self,
+        alloc: Global,
+        seq: u32,
+        extra: u32,
+        now: u64,
+        expiry: &mut Expiry,
+    ) -> Result<Datagrams, SendNo>
         requires now { IsNow now expiry.old }
         requires alone { WaitsAlone self.old expiry.old }
         requires room { LeavesRoom (unsent self.old) expiry.old }
@@ -196,7 +214,14 @@ impl Sender {
         self.duplicate(alloc, seq, extra, now, expiry)
     }
 
-    fn duplicate(&mut self, alloc: Global, seq: u32, extra: u32, now: u64, expiry: &mut Expiry) -> Result<Datagrams, SendNo>
+    fn duplicate(
+        &mut self,
+        alloc: Global,
+        seq: u32,
+        extra: u32,
+        now: u64,
+        expiry: &mut Expiry,
+    ) -> Result<Datagrams, SendNo>
         requires now { IsNow now expiry.old }
         requires alone { WaitsAlone self.old expiry.old }
         requires room { LeavesRoom (unsent self.old) expiry.old }
@@ -237,7 +262,13 @@ impl Sender {
         self.nak(alloc, seq, now, expiry)
     }
 
-    fn nak(&mut self, alloc: Global, seq: u32, now: u64, expiry: &mut Expiry) -> Result<Datagrams, SendNo>
+    fn nak(
+        &mut self,
+        alloc: Global,
+        seq: u32,
+        now: u64,
+        expiry: &mut Expiry,
+    ) -> Result<Datagrams, SendNo>
         requires now { IsNow now expiry.old }
         requires alone { WaitsAlone self.old expiry.old }
         requires room { LeavesRoom (unsent self.old) expiry.old }
@@ -297,7 +328,15 @@ impl Sender {
         self.disorder(alloc, seq, extra, missing, now, expiry)
     }
 
-    fn disorder(&mut self, alloc: Global, seq: u32, extra: u32, missing: &[u8], now: u64, expiry: &mut Expiry) -> Result<Datagrams, SendNo>
+    fn disorder(
+        &mut self,
+        alloc: Global,
+        seq: u32,
+        extra: u32,
+        missing: &[u8],
+        now: u64,
+        expiry: &mut Expiry,
+    ) -> Result<Datagrams, SendNo>
         requires allowed { AllowsBody Disorder (length missing.now) }
         requires now { IsNow now expiry.old }
         requires alone { WaitsAlone self.old expiry.old }

@@ -1,5 +1,17 @@
-//! One sending connection: it fills packets with chunks, and emits them in order and again until they are answered. No
-//! socket, no clock, no lock, and no judgement of whose datagram it is.
+//! One sending connection: it fills packets with chunks, emits them in order while there is room, and again until they
+//! are answered. No socket, no clock, no lock, and no judgement of whose datagram it is.
+//!
+//! A hub makes one [`Sender`] for each connection that sends from its segment, and owns it while the query lives. What
+//! waits for an answer stands in the query's `Expiry`, under the connection's number, and the caller hands that queue to
+//! each call. Commands of the slice are `put` and `finish`. Events are `on_ack`, `on_duplicate`, `on_disorder`, `on_nak`
+//! and `on_stop`, once the hub has found that a datagram is such an answer. Each gives the datagrams that the hub then
+//! emits. A tick has two phases, so that a refused one changes nothing: `due_gives` and `query_gives` look, for all
+//! connections first, and then `due_done` and `query_done` make the change. `is_over`, `is_stopped`, `is_finished`,
+//! `sent`, `resent` and `query_due` look.
+//!
+//! Read first: `specs/Sending.antt`, what each event makes of a connection; `specs/Calls.antt`, what each call answers;
+//! then `specs/Standing.antt`, what a connection has to do with the history of its hub. Below: `ic_sendring`, `ic_window`,
+//! `ic_expire` and `ic_law`. Above: the hub.
 #![tactic(auto)]
 
 mod answers;
@@ -20,3 +32,6 @@ pub use laws::{
 };
 pub use send_no::SendNo;
 pub use sender::Sender;
+
+#[cfg(test)]
+mod tests;

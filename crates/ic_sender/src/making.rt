@@ -42,7 +42,12 @@ fn header_of(end: &ConnEnd, flags: Flags, size: usize, seq: u32) -> Header
 }
 
 /// A header with its body behind it, in a datagram to the receiving end. Copies the body once.
-fn datagram(alloc: Global, end: &ConnEnd, header: &Header, body: &[u8]) -> Result<Datagram, AllocError>
+fn datagram(
+    alloc: Global,
+    end: &ConnEnd,
+    header: &Header,
+    body: &[u8],
+) -> Result<Datagram, AllocError>
     requires { length body.now ≤ 65507 }
     ensures { IfOk result (λ d. d ≡ record { from = end.now.key.from; to = end.now.key.to; bytes = written header.now ++ body.now }) }
 {

@@ -61,7 +61,13 @@ impl Numbers {
 
     /// The status query that stands then. Where nothing is on its way, a packet is unsent and the receiver has no room,
     /// there is one; room ends it.
-    pub(crate) fn asks(&self, depth: u32, window: &Window, asked: Option<Asked>, now: u64) -> Option<Asked>
+    pub(crate) fn asks(
+        &self,
+        depth: u32,
+        window: &Window,
+        asked: Option<Asked>,
+        now: u64,
+    ) -> Option<Asked>
         requires { now ≤ last_tick }
         ensures { option_map asked_of result ≡ (if nat_lt 0 (depth - (self.now.sent - self.now.consumed)) then None else
             (if nat_le self.now.sent self.now.acked && nat_lt self.now.sent self.now.sealed then standing now window.now (option_map asked_of asked) else option_map asked_of asked)) }

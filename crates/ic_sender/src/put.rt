@@ -110,7 +110,18 @@ impl Sender {
     {
         let mut datagrams = Vec::new(alloc);
         let depth = self.settings.receive_depth;
-        let plan = plan_end(alloc, &self.end, &self.ring, None, &self.numbers, &self.window, depth, self.asked, now, &mut datagrams)?;
+        let plan = plan_end(
+            alloc,
+            &self.end,
+            &self.ring,
+            None,
+            &self.numbers,
+            &self.window,
+            depth,
+            self.asked,
+            now,
+            &mut datagrams,
+        )?;
         self.flights.reserve(plan.flights.len())?;
         fill(&mut self.opened, chunk);
         wait_all(expiry, self.conn, plan.flights.as_slice(), plan.due);
@@ -145,7 +156,18 @@ impl Sender {
             last: false,
             payload: self.opened.as_slice(),
         };
-        let plan = plan_end(alloc, &self.end, &self.ring, Some(newest), &numbers, &self.window, depth, self.asked, now, &mut datagrams)?;
+        let plan = plan_end(
+            alloc,
+            &self.end,
+            &self.ring,
+            Some(newest),
+            &numbers,
+            &self.window,
+            depth,
+            self.asked,
+            now,
+            &mut datagrams,
+        )?;
         self.flights.reserve(plan.flights.len())?;
         seal(&mut self.ring, self.opened.as_slice(), false);
         refill(&mut self.opened, chunk);
@@ -181,7 +203,18 @@ impl Sender {
             last: true,
             payload: payload.as_slice(),
         };
-        let plan = plan_end(alloc, &self.end, &self.ring, Some(newest), &numbers, &self.window, depth, self.asked, now, &mut datagrams)?;
+        let plan = plan_end(
+            alloc,
+            &self.end,
+            &self.ring,
+            Some(newest),
+            &numbers,
+            &self.window,
+            depth,
+            self.asked,
+            now,
+            &mut datagrams,
+        )?;
         self.flights.reserve(plan.flights.len())?;
         seal(&mut self.ring, payload.as_slice(), true);
         wait_all(expiry, self.conn, plan.flights.as_slice(), plan.due);

@@ -90,7 +90,14 @@ impl Sender {
         ensures tries { self.new ≡ trying seqs.now self.old }
         ensures waits { expiry.new ≡ record expiry.old { held = waits_longer now self.old seqs.now expiry.old.held } }
     {
-        wait_longer(expiry, self.conn, self.flights.as_slice(), seqs, &self.window, now);
+        wait_longer(
+            expiry,
+            self.conn,
+            self.flights.as_slice(),
+            seqs,
+            &self.window,
+            now,
+        );
         retry_listed(&mut self.flights, seqs);
         self.window = with_loss(&self.window, seqs);
         self.resent = self.resent.saturating_add(seqs.len() as u128);

@@ -36,8 +36,8 @@ loop-seq-preserved c =
     record {
       may = subst (λ (y : Queue). MayWait c.args.conn rest y) (sym c.put.ensures.ok) may;
       held = ap (λ (y : Queue). later_waits c.args.now c.args.conn w c.args.flights.now rest y.held) c.put.ensures.ok
-        ∙ ap (λ d. later_waits c.args.now c.args.conn w c.args.flights.now rest (with_item (record { due = d; conn = c.args.conn; seq = x }) q.held)) is_due
-        ∙ ap (λ l. later_waits c.args.now c.args.conn w c.args.flights.now l q.held) (sym next) ∙ c.loop-seq.invariant.held;
+          ∙ ap (λ d. later_waits c.args.now c.args.conn w c.args.flights.now rest (with_item (record { due = d; conn = c.args.conn; seq = x }) q.held)) is_due
+          ∙ ap (λ l. later_waits c.args.now c.args.conn w c.args.flights.now l q.held) (sym next) ∙ c.loop-seq.invariant.held;
       asked = ap (λ (y : Queue). y.asked) c.put.ensures.ok ∙ c.loop-seq.invariant.asked;
       room = ap (λ (y : Queue). y.room) c.put.ensures.ok ∙ c.loop-seq.invariant.room;
     }

@@ -52,7 +52,6 @@ planned s now run consumed a p w freed o out before fs le is_consumed is_freed i
     let four = subst (λ x. Plans s.end s.kept (n (max s.consumed a.consumed)) (lost_with again (freed_window now run s)) depth x now p) asked three in
     plans_freed s.end s.kept (n (max s.consumed a.consumed)) (lost_with again (freed_window now run s)) depth (option_map (law.asked_later now (freed_window now run s)) s.asked) now p run le four
 
-
 pub wait_all-requires-clause-may : goal.wait_all-requires-clause-may
 unfolding heard
 wait_all-requires-clause-may c =
