@@ -19,7 +19,7 @@ use Rattle.pl_read.specs.Documents.{document_at, value_of, reading}
 use Rattle.pl_read.specs.Limits.{IsDocument}
 use Rattle.pl_read.proofs.Steps.{same_Ok, came, found, if_there, number_is, list_length}
 use Rattle.pl_read.proofs.PlanLimits.{plans_are_plans}
-use Rattle.pl_read.proofs.TableLimits.{tables_are_tables, schemas_are_tables, rows_have_widths}
+use Rattle.pl_read.proofs.TableLimits.{tables_are_tables, schemas_are_tables, rows_have_widths, values_have_kinds}
 
 -- ---- settings
 
@@ -80,6 +80,7 @@ document_keeps path d document e =
       table_count = t.1;
       tables = schemas_are_tables tables t.0;
       rows = rows_have_widths tables t.0;
+      values = values_have_kinds tables t.0;
       query_count = n;
       queries = q;
     }))))))))

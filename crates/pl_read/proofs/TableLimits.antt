@@ -1,14 +1,16 @@
 -- The sizes of tables that are read.
-use Rattle.std.proofs.Common.{◌≡◌, ℕ, suc, ◌+◌, ◌≤◌, ◌<◌, ◌==◌, List, [], ◌∷◌, ◌++◌, length, map, codes, Bool, true, false, not, ◌&&◌, nat_lt, eqb, cond, Option, None, Ok, Err, refl, sym, ap, subst, ◌∙◌, arith}
+use Rattle.std.proofs.Common.{◌≡◌, ℕ, suc, ◌+◌, ◌≤◌, ◌<◌, ◌==◌, List, [], ◌∷◌, ◌++◌, length, map, codes, Bool, true, false, not, ◌&&◌, nat_lt, eqb, cond, drop, drop-cons, add-one, Option, None, Ok, Err, refl, sym, ap, subst, ◌∙◌, arith}
 use Rattle.std.specs.Prelude.{is_some}
 use Rattle.std.specs.List.{AllByRecursion, list_any}
 use Rattle.std.proofs.lemmas.Bool.{and_parts, ltb-true, eqb-true}
-use Rattle.std.proofs.lemmas.List.{length-append}
-use Rattle.serde_json.specs.Data.{Data, Items, no_items, item}
+use Rattle.std.proofs.lemmas.List.{length-append, drop_all}
+use Rattle.serde_json.specs.Data.{Data, null, boolean, number, string, array, object, Items, no_items, item}
 use Rattle.serde_json.specs.Events.{items_len}
 use Rattle.serde_json.specs.Find.{as_array, get}
 use Rattle.ic_row.specs.declared.value.Kind.{Kind}
+use Rattle.ic_row.specs.declared.value.Kind.TheVariants as kind
 use Rattle.ic_row.specs.declared.value.Value.{Value}
+use Rattle.ic_row.specs.declared.value.Value.TheVariants.{Null, Int, Chars}
 use Rattle.pl_tree.specs.Columns as columns
 use Rattle.pl_tree.specs.Sizes.{IsPlaced, IsTable, AreTables}
 use Rattle.pl_read.specs.declared.table.Table.{Table}
@@ -17,9 +19,10 @@ use Rattle.pl_read.specs.Paths.{Step, member, index}
 use Rattle.pl_read.specs.Faults.{fault_at, or_refused, ◌>>=◌}
 use Rattle.pl_read.specs.Members.{object_at, only, needed}
 use Rattle.pl_read.specs.Values.{position_at, array_at}
+use Rattle.pl_read.specs.Exprs.{integer_in}
 use Rattle.pl_read.specs.Rows.{datum_at, data_from, row_of, row_at, rows_from, rows_at}
 use Rattle.pl_read.specs.Tables.{new_name_at, column_at, columns_from, kinds_at, key_column_at, key_from, key_at, key_in, replicated_in, placing, names_of, table_at, tables_from, tables_at}
-use Rattle.pl_read.specs.Limits.{HasWidths}
+use Rattle.pl_read.specs.Limits.{HasWidths, IsOf, FitsColumns, HasKinds}
 use Rattle.pl_read.proofs.Steps.{same_Ok, came, held, found, if_there, all_push, all_map, all_weaker, array_is, each_all}
 
 -- ---- columns
@@ -92,10 +95,55 @@ rows_are_wide : (kinds : List Kind) (path : List Step) (d : Data) (rows : List (
 rows_are_wide kinds path d rows e =
     came (or_refused (as_array d) path flaw.Kind) (rows_from kinds path) rows e (λ ds _ e1. each_all (λ row. length row ≡ length kinds) (row_at kinds) (row_is_wide kinds) path 0 ds rows e1)
 
+-- ---- values
+
+datum_is_of : (k : Kind) (path : List Step) (d : Data) (v : Value) → datum_at k path d ≡ Ok v → IsOf k v
+datum_is_of kind.Int path null v e = subst (IsOf kind.Int) (same_Ok Null v e) tt
+datum_is_of kind.Int path (boolean b) v e = absurd cc
+datum_is_of kind.Int path (number n) v e = came (integer_in path n) (λ z. Ok (Int z)) v e (λ z _ e1. subst (IsOf kind.Int) (same_Ok (Int z) v e1) tt)
+datum_is_of kind.Int path (string text) v e = absurd cc
+datum_is_of kind.Int path (array ds) v e = absurd cc
+datum_is_of kind.Int path (object ms) v e = absurd cc
+datum_is_of kind.Wide path null v e = subst (IsOf kind.Wide) (same_Ok Null v e) tt
+datum_is_of kind.Wide path (boolean b) v e = absurd cc
+datum_is_of kind.Wide path (number n) v e = absurd cc
+datum_is_of kind.Wide path (string text) v e = absurd cc
+datum_is_of kind.Wide path (array ds) v e = absurd cc
+datum_is_of kind.Wide path (object ms) v e = absurd cc
+datum_is_of kind.Chars path null v e = subst (IsOf kind.Chars) (same_Ok Null v e) tt
+datum_is_of kind.Chars path (boolean b) v e = absurd cc
+datum_is_of kind.Chars path (number n) v e = absurd cc
+datum_is_of kind.Chars path (string text) v e = subst (IsOf kind.Chars) (same_Ok (Chars text) v e) tt
+datum_is_of kind.Chars path (array ds) v e = absurd cc
+datum_is_of kind.Chars path (object ms) v e = absurd cc
+
+data_fit : (kinds : List Kind) (path : List Step) (i : ℕ) (ds : Items) (row : List Value) → data_from kinds path i ds ≡ Ok row → i + items_len ds ≡ length kinds → FitsColumns (drop i kinds) row
+data_fit kinds path i no_items row e n =
+    let end : drop i kinds ≡ [] = drop_all i kinds (omega (arith, n)) in
+    subst (FitsColumns (drop i kinds)) (same_Ok [] row e) (subst (λ ks. FitsColumns ks []) (sym end) tt)
+data_fit kinds path i (item d ds) row e n =
+    came (datum_at (columns.kind_at kinds i) (index i ∷ path) d) (λ value. data_from kinds path (i + 1) ds >>= λ values. Ok (value ∷ values)) row e (λ value is e1.
+    came (data_from kinds path (i + 1) ds) (λ values. Ok (value ∷ values)) row e1 (λ values are e2.
+    let here = drop-cons kinds i kind.Int (omega (arith, n)) in
+    let rest = subst (λ k. FitsColumns (drop k kinds) values) (add-one i) (data_fit kinds path (i + 1) ds values are (omega (arith, n))) in
+    subst (FitsColumns (drop i kinds)) (same_Ok (value ∷ values) row e2) (subst (λ ks. FitsColumns ks (value ∷ values)) (sym here) (datum_is_of (columns.kind_at kinds i) (index i ∷ path) d value is, rest))))
+
+fits : (kinds : List Kind) (path : List Step) (ds : Items) (b : Bool) (row : List Value) → eqb (items_len ds) (length kinds) ≡ b → cond b (data_from kinds path 0 ds) (Err (fault_at path flaw.Width)) ≡ Ok row → FitsColumns kinds row
+fits kinds path ds true row is e = let n = eqb-true (items_len ds) (length kinds) is in data_fit kinds path 0 ds row e (omega (arith, n))
+fits kinds path ds false row is e = absurd cc
+
+row_fits : (kinds : List Kind) (path : List Step) (d : Data) (row : List Value) → row_at kinds path d ≡ Ok row → FitsColumns kinds row
+row_fits kinds path d row e =
+    came (or_refused (as_array d) path flaw.Kind) (row_of kinds path) row e (λ ds _ e1. fits kinds path ds (eqb (items_len ds) (length kinds)) row refl e1)
+
+rows_fit : (kinds : List Kind) (path : List Step) (d : Data) (rows : List (List Value)) → rows_at kinds path d ≡ Ok rows → AllByRecursion (FitsColumns kinds) rows
+rows_fit kinds path d rows e =
+    came (or_refused (as_array d) path flaw.Kind) (rows_from kinds path) rows e (λ ds _ e1. each_all (FitsColumns kinds) (row_at kinds) (row_fits kinds) path 0 ds rows e1)
+
 -- ---- tables
 
 abbrev pub KeepsLimits : Table → Type 0
-KeepsLimits table = IsTable table.schema × HasWidths table
+KeepsLimits table = IsTable table.schema × HasWidths table × HasKinds table
 
 table_keeps : (names : List (List ℕ)) (path : List Step) (d : Data) (table : Table) → table_at names path d ≡ Ok table → KeepsLimits table
 table_keeps names path d table e =
@@ -109,7 +157,8 @@ table_keeps names path d table e =
     came (needed (rows_at kinds) path (codes "rows") d) (λ rows. Ok (made name kinds key replicated rows)) table e6 (λ rows told e7.
     let columns = found kinds_at path (codes "columns") d kinds are (λ v e8. kinds_length (member (codes "columns") ∷ path) v kinds e8) in
     let widths = found (rows_at kinds) path (codes "rows") d rows told (λ v e8. rows_are_wide kinds (member (codes "rows") ∷ path) v rows e8) in
-    subst KeepsLimits (same_Ok (made name kinds key replicated rows) table e7) (record { columns = columns; place = is_placed (length kinds) path d key replicated keyed }, widths))))))))
+    let values = found (rows_at kinds) path (codes "rows") d rows told (λ v e8. rows_fit kinds (member (codes "rows") ∷ path) v rows e8) in
+    subst KeepsLimits (same_Ok (made name kinds key replicated rows) table e7) (record { columns = columns; place = is_placed (length kinds) path d key replicated keyed }, widths, values))))))))
 
 tables_keep : (before : List Table) (path : List Step) (i : ℕ) (ds : Items) (tables : List Table) → AllByRecursion KeepsLimits before → tables_from before path i ds ≡ Ok tables → AllByRecursion KeepsLimits tables × (length tables ≡ length before + items_len ds)
 tables_keep before path i no_items tables all e =
@@ -134,3 +183,6 @@ schemas_are_tables tables all = all_map IsTable (λ table. table.schema) tables 
 
 pub rows_have_widths : (tables : List Table) → AllByRecursion KeepsLimits tables → AllByRecursion HasWidths tables
 rows_have_widths tables all = all_weaker KeepsLimits HasWidths (λ table k. k.1) tables all
+
+pub values_have_kinds : (tables : List Table) → AllByRecursion KeepsLimits tables → AllByRecursion HasKinds tables
+values_have_kinds tables all = all_weaker KeepsLimits HasKinds (λ table k. k.2) tables all

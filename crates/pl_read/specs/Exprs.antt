@@ -107,3 +107,6 @@ abbrev mutual
   pub parts_from : List Step → ℕ → Items → Result (List Expr) DocFault
   parts_from path i no_items = Ok []
   parts_from path i (item d ds) = expr_at (index i ∷ path) d >>= λ part. parts_from path (i + 1) ds >>= λ parts. Ok (part ∷ parts)
+
+abbrev pub applied_at : Operator → List Step → Items → Result Expr DocFault
+applied_at operator path ds = applied operator path ds (one_at path ds) (some_at path ds)

@@ -159,6 +159,10 @@ abbrev mutual
   child_in path name (json.member l d ms) =
       match_ordering (slice_cmp nat_cmp name l) (child_in path name ms) (node_at (member name ∷ path) d) (child_in path name ms)
 
+abbrev pub shaped_at : Shape → List Step → Data → Result Node DocFault
+shaped_at shape path d =
+    shaped shape path d (needed node_at path (codes "child") d) (needed node_at path (codes "left") d) (needed node_at path (codes "right") d)
+
 -- at most 64 nodes, counted once all else was judged
 abbrev pub within_plan : List Step → Node → Result Plan DocFault
 within_plan path root = if nat_le (nodes_in (tree_of root)) 64 then Ok (record { root = root }) else refused path Range

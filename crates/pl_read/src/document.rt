@@ -83,7 +83,8 @@ fn document_at(alloc: Global, place: Place<'_>, value: &Value) -> Result<Documen
 pub fn read_document(alloc: Global, bytes: &[u8]) -> Result<Document, DocNo>
     // The document that the bytes say, or the first fault.
     ensures exact { Gives (λ x. x) result (spec.reading bytes.now) }
-    // Each number in its range, each plan and table as large as they may be, each row with a value for each column.
+    // Each number in its range, each plan and table as large as they may be, each row with a value of its kind,
+    // or null, for each column.
     ensures limits { IfOk result IsDocument }
 {
     match Value::from_slice(alloc, bytes) {

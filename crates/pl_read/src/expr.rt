@@ -25,30 +25,21 @@ pub(crate) enum Operator {
     IsNull,
 }
 
-fn operator_of(word: &str) -> Option<Operator>
-    ensures { result ≡ spec.operator_of word.now }
-{
-    match word {
-        "=" => Some(Operator::Compare(CompareOp::Eq)),
-        "<>" => Some(Operator::Compare(CompareOp::Ne)),
-        "<" => Some(Operator::Compare(CompareOp::Lt)),
-        "<=" => Some(Operator::Compare(CompareOp::Le)),
-        ">" => Some(Operator::Compare(CompareOp::Gt)),
-        ">=" => Some(Operator::Compare(CompareOp::Ge)),
-        "and" => Some(Operator::And),
-        "or" => Some(Operator::Or),
-        "not" => Some(Operator::Not),
-        "null" => Some(Operator::IsNull),
-        _ => None,
-    }
-}
-
 fn operator_at(alloc: Global, place: Place<'_>, value: &Value) -> Result<Operator, DocNo>
     ensures { Gives (λ x. x) result (spec.operator_at (path_of place.entry) (view value.now)) }
 {
-    match operator_of(text_at(alloc, place, value)?) {
-        Some(operator) => Ok(operator),
-        None => Err(place.no(alloc, Flaw::Kind)),
+    match text_at(alloc, place, value)? {
+        "=" => Ok(Operator::Compare(CompareOp::Eq)),
+        "<>" => Ok(Operator::Compare(CompareOp::Ne)),
+        "<" => Ok(Operator::Compare(CompareOp::Lt)),
+        "<=" => Ok(Operator::Compare(CompareOp::Le)),
+        ">" => Ok(Operator::Compare(CompareOp::Gt)),
+        ">=" => Ok(Operator::Compare(CompareOp::Ge)),
+        "and" => Ok(Operator::And),
+        "or" => Ok(Operator::Or),
+        "not" => Ok(Operator::Not),
+        "null" => Ok(Operator::IsNull),
+        _ => Err(place.no(alloc, Flaw::Kind)),
     }
 }
 
@@ -161,7 +152,7 @@ fn applied_at(
     operator: Operator,
     parts: &[Value],
 ) -> Result<Expr, DocNo>
-    ensures { Gives (λ x. x) result (spec.applied operator (path_of place.entry) (items_view parts.now) (spec.one_at (path_of place.entry) (items_view parts.now)) (spec.some_at (path_of place.entry) (items_view parts.now))) }
+    ensures { Gives (λ x. x) result (spec.applied_at operator (path_of place.entry) (items_view parts.now)) }
 {
     match operator {
         Operator::Compare(op) => compared_at(alloc, place, op, parts),

@@ -70,7 +70,8 @@ pub(crate) fn list_if_there<T: Element>(
     name: &str,
     least: usize,
 ) -> Result<Option<Items<T>>, DocNo>
-    ensures { Gives (λ x. x) result (spec.list_if_there T.reading least (path_of place.entry) name.now (view object.now)) }
+    ensures { Gives (λ x. x) result
+        (spec.list_if_there T.reading least (path_of place.entry) name.now (view object.now)) }
 {
     match object.get(name) {
         Some(value) => Ok(Some(list_at(alloc, place.member(name), value, least, LONGEST_LIST)?)),
@@ -87,22 +88,13 @@ impl Element for u32 {
     }
 }
 
-fn is_down(word: &str) -> Option<bool>
-    ensures { result ≡ spec.is_down word.now }
-{
-    match word {
-        "asc" => Some(false),
-        "desc" => Some(true),
-        _ => None,
-    }
-}
-
 fn direction_at(alloc: Global, place: Place<'_>, value: &Value) -> Result<bool, DocNo>
     ensures { Gives (λ x. x) result (spec.direction_at (path_of place.entry) (view value.now)) }
 {
-    match is_down(text_at(alloc, place, value)?) {
-        Some(down) => Ok(down),
-        None => Err(place.no(alloc, Flaw::Kind)),
+    match text_at(alloc, place, value)? {
+        "asc" => Ok(false),
+        "desc" => Ok(true),
+        _ => Err(place.no(alloc, Flaw::Kind)),
     }
 }
 
@@ -141,24 +133,15 @@ pub(crate) enum Function {
     Max,
 }
 
-fn function_of(word: &str) -> Option<Function>
-    ensures { result ≡ spec.function_of word.now }
-{
-    match word {
-        "count" => Some(Function::Count),
-        "sum" => Some(Function::Sum),
-        "min" => Some(Function::Min),
-        "max" => Some(Function::Max),
-        _ => None,
-    }
-}
-
 fn function_at(alloc: Global, place: Place<'_>, value: &Value) -> Result<Function, DocNo>
     ensures { Gives (λ x. x) result (spec.function_at (path_of place.entry) (view value.now)) }
 {
-    match function_of(text_at(alloc, place, value)?) {
-        Some(function) => Ok(function),
-        None => Err(place.no(alloc, Flaw::Kind)),
+    match text_at(alloc, place, value)? {
+        "count" => Ok(Function::Count),
+        "sum" => Ok(Function::Sum),
+        "min" => Ok(Function::Min),
+        "max" => Ok(Function::Max),
+        _ => Err(place.no(alloc, Flaw::Kind)),
     }
 }
 

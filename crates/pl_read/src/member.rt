@@ -19,7 +19,8 @@ pub(crate) fn object_at<'v>(
     place: Place<'_>,
     value: &'v Value,
 ) -> Result<&'v Map<String, Value>, DocNo>
-    ensures { Gives (λ members. members_view members.now.entries) result (object_at (path_of place.entry) (view value.now)) }
+    ensures { Gives (λ members. members_view members.now.entries) result
+        (object_at (path_of place.entry) (view value.now)) }
 {
     match value.as_object() {
         Some(members) => Ok(members),
@@ -48,7 +49,8 @@ pub(crate) fn only(
     members: &Map<String, Value>,
     names: &[&str],
 ) -> Result<(), DocNo>
-    ensures { Gives (λ _. tt) result (only (path_of place.entry) (map (λ name. name.now) names.now) (members_view members.now.entries)) }
+    ensures { Gives (λ _. tt) result
+        (only (path_of place.entry) (map (λ name. name.now) names.now) (members_view members.now.entries)) }
 {
     for (name, _) in members.iter() {
         if !is_among(name.as_str(), names) {

@@ -66,50 +66,32 @@ pub(crate) enum Op {
     Agg,
 }
 
-fn op_of(word: &str) -> Option<Op>
-    ensures { result ≡ spec.op_of word.now }
-{
-    match word {
-        "scan" => Some(Op::Is(Shape::Scan)),
-        "filter" => Some(Op::Is(Shape::Over(Upper::Filter))),
-        "project" => Some(Op::Is(Shape::Over(Upper::Project))),
-        "limit" => Some(Op::Is(Shape::Over(Upper::Limit))),
-        "sort" => Some(Op::Is(Shape::Over(Upper::Sort))),
-        "join" => Some(Op::Is(Shape::Join)),
-        "agg" => Some(Op::Agg),
-        "gather" => Some(Op::Is(Shape::Over(Upper::Gather))),
-        "redistribute" => Some(Op::Is(Shape::Over(Upper::Redistribute))),
-        "broadcast" => Some(Op::Is(Shape::Over(Upper::Broadcast))),
-        _ => None,
-    }
-}
-
 fn op_at(alloc: Global, place: Place<'_>, value: &Value) -> Result<Op, DocNo>
     ensures { Gives (λ x. x) result (spec.op_at (path_of place.entry) (view value.now)) }
 {
-    match op_of(text_at(alloc, place, value)?) {
-        Some(op) => Ok(op),
-        None => Err(place.no(alloc, Flaw::Kind)),
-    }
-}
-
-fn stage_of(word: &str) -> Option<Upper>
-    ensures { result ≡ spec.stage_of word.now }
-{
-    match word {
-        "single" => Some(Upper::Single),
-        "partial" => Some(Upper::Partial),
-        "final" => Some(Upper::Final),
-        _ => None,
+    match text_at(alloc, place, value)? {
+        "scan" => Ok(Op::Is(Shape::Scan)),
+        "filter" => Ok(Op::Is(Shape::Over(Upper::Filter))),
+        "project" => Ok(Op::Is(Shape::Over(Upper::Project))),
+        "limit" => Ok(Op::Is(Shape::Over(Upper::Limit))),
+        "sort" => Ok(Op::Is(Shape::Over(Upper::Sort))),
+        "join" => Ok(Op::Is(Shape::Join)),
+        "agg" => Ok(Op::Agg),
+        "gather" => Ok(Op::Is(Shape::Over(Upper::Gather))),
+        "redistribute" => Ok(Op::Is(Shape::Over(Upper::Redistribute))),
+        "broadcast" => Ok(Op::Is(Shape::Over(Upper::Broadcast))),
+        _ => Err(place.no(alloc, Flaw::Kind)),
     }
 }
 
 fn stage_at(alloc: Global, place: Place<'_>, value: &Value) -> Result<Upper, DocNo>
     ensures { Gives (λ x. x) result (spec.stage_at (path_of place.entry) (view value.now)) }
 {
-    match stage_of(text_at(alloc, place, value)?) {
-        Some(stage) => Ok(stage),
-        None => Err(place.no(alloc, Flaw::Kind)),
+    match text_at(alloc, place, value)? {
+        "single" => Ok(Upper::Single),
+        "partial" => Ok(Upper::Partial),
+        "final" => Ok(Upper::Final),
+        _ => Err(place.no(alloc, Flaw::Kind)),
     }
 }
 
@@ -251,7 +233,7 @@ fn child_at(
 
 #[cycle(node)]
 fn shaped_at(alloc: Global, place: Place<'_>, object: &Value, shape: Shape) -> Result<Node, DocNo>
-    ensures { Gives (λ x. x) result (spec.shaped shape (path_of place.entry) (view object.now) (needed spec.node_at (path_of place.entry) (codes "child") (view object.now)) (needed spec.node_at (path_of place.entry) (codes "left") (view object.now)) (needed spec.node_at (path_of place.entry) (codes "right") (view object.now))) }
+    ensures { Gives (λ x. x) result (spec.shaped_at shape (path_of place.entry) (view object.now)) }
 {
     match shape {
         Shape::Scan => scan_at(alloc, place, object),

@@ -23,7 +23,8 @@ fn number_or(
     greatest: u32,
     default: u32,
 ) -> Result<u32, DocNo>
-    ensures { Gives (λ n. n) result (spec.number_or least greatest default (path_of place.entry) name.now (view object.now)) }
+    ensures { Gives (λ n. n) result
+        (spec.number_or least greatest default (path_of place.entry) name.now (view object.now)) }
 {
     let (least, greatest) = (u64::from(least), u64::from(greatest));
     match object.get(name) {
@@ -32,22 +33,13 @@ fn number_or(
     }
 }
 
-fn flow_of(word: &str) -> Option<Flow>
-    ensures { result ≡ spec.flow_of word.now }
-{
-    match word {
-        "loss" => Some(Flow::Loss),
-        "capacity" => Some(Flow::Capacity),
-        _ => None,
-    }
-}
-
 fn flow_at(alloc: Global, place: Place<'_>, value: &Value) -> Result<Flow, DocNo>
     ensures { Gives (λ x. x) result (spec.flow_at (path_of place.entry) (view value.now)) }
 {
-    match flow_of(text_at(alloc, place, value)?) {
-        Some(flow) => Ok(flow),
-        None => Err(place.no(alloc, Flaw::Kind)),
+    match text_at(alloc, place, value)? {
+        "loss" => Ok(Flow::Loss),
+        "capacity" => Ok(Flow::Capacity),
+        _ => Err(place.no(alloc, Flaw::Kind)),
     }
 }
 

@@ -55,22 +55,13 @@ fn name_at<'v>(alloc: Global, place: Place<'_>, value: &'v Value) -> Result<&'v 
     }
 }
 
-fn kind_of(word: &str) -> Option<Kind>
-    ensures { result ≡ spec.kind_of word.now }
-{
-    match word {
-        "int" => Some(Kind::Int),
-        "text" => Some(Kind::Chars),
-        _ => None,
-    }
-}
-
 fn kind_at(alloc: Global, place: Place<'_>, value: &Value) -> Result<Kind, DocNo>
     ensures { Gives (λ x. x) result (spec.kind_at (path_of place.entry) (view value.now)) }
 {
-    match kind_of(text_at(alloc, place, value)?) {
-        Some(kind) => Ok(kind),
-        None => Err(place.no(alloc, Flaw::Kind)),
+    match text_at(alloc, place, value)? {
+        "int" => Ok(Kind::Int),
+        "text" => Ok(Kind::Chars),
+        _ => Err(place.no(alloc, Flaw::Kind)),
     }
 }
 
@@ -81,7 +72,8 @@ fn column_name_at<'v>(
     value: &'v Value,
     names: &[&str],
 ) -> Result<&'v str, DocNo>
-    ensures { Gives (λ name. name.now) result (spec.new_name_at (map (λ name. name.now) names.now) (path_of place.entry) (view value.now)) }
+    ensures { Gives (λ name. name.now) result
+        (spec.new_name_at (map (λ name. name.now) names.now) (path_of place.entry) (view value.now)) }
 {
     let name = name_at(alloc, place, value)?;
     if is_among(name, names) {
@@ -98,7 +90,8 @@ fn column_at<'v>(
     value: &'v Value,
     names: &[&str],
 ) -> Result<(&'v str, Kind), DocNo>
-    ensures { Gives (λ column. (column.0.now, column.1)) result (spec.column_at (map (λ name. name.now) names.now) (path_of place.entry) (view value.now)) }
+    ensures { Gives (λ column. (column.0.now, column.1)) result
+        (spec.column_at (map (λ name. name.now) names.now) (path_of place.entry) (view value.now)) }
 {
     let (name, kind) = pair_at(alloc, place, value)?;
     let name = column_name_at(alloc, place.item(0), name, names)?;
@@ -242,7 +235,8 @@ fn table_name_at<'v>(
     value: &'v Value,
     tables: &[Table],
 ) -> Result<&'v str, DocNo>
-    ensures { Gives (λ name. name.now) result (spec.new_name_at (spec.names_of tables.now) (path_of place.entry) (view value.now)) }
+    ensures { Gives (λ name. name.now) result
+        (spec.new_name_at (spec.names_of tables.now) (path_of place.entry) (view value.now)) }
 {
     let name = name_at(alloc, place, value)?;
     if has_name(tables, name) {

@@ -79,7 +79,8 @@ pub(crate) fn number_in(
     least: u64,
     greatest: u64,
 ) -> Result<u64, DocNo>
-    ensures exact { Gives (λ n. n) result (needed (spec.number_at least greatest) (path_of place.entry) name.now (view object.now)) }
+    ensures exact { Gives (λ n. n) result
+        (needed (spec.number_at least greatest) (path_of place.entry) name.now (view object.now)) }
     ensures greatest { IfOk result (λ n. n ≤ greatest) }
 {
     let value = required(alloc, place, object, name)?;
@@ -102,7 +103,8 @@ pub(crate) fn array_at<'v>(
     least: usize,
     greatest: usize,
 ) -> Result<&'v [Value], DocNo>
-    ensures { Gives (λ items. items_view items.now) result (spec.array_at least greatest (path_of place.entry) (view value.now)) }
+    ensures { Gives (λ items. items_view items.now) result
+        (spec.array_at least greatest (path_of place.entry) (view value.now)) }
 {
     match value.as_array() {
         Some(items) if least <= items.len() && items.len() <= greatest => Ok(items.as_slice()),
@@ -117,7 +119,8 @@ fn two_of<'v>(
     place: Place<'_>,
     items: &'v [Value],
 ) -> Result<(&'v Value, &'v Value), DocNo>
-    ensures { Gives (λ pair. (view pair.0.now, view pair.1.now)) result (spec.two_of (path_of place.entry) (items_view items.now)) }
+    ensures { Gives (λ pair. (view pair.0.now, view pair.1.now)) result
+        (spec.two_of (path_of place.entry) (items_view items.now)) }
 {
     let [first, second] = items else {
         return Err(place.no(alloc, Flaw::Range));
@@ -131,7 +134,8 @@ pub(crate) fn pair_at<'v>(
     place: Place<'_>,
     value: &'v Value,
 ) -> Result<(&'v Value, &'v Value), DocNo>
-    ensures { Gives (λ pair. (view pair.0.now, view pair.1.now)) result (spec.pair_at (path_of place.entry) (view value.now)) }
+    ensures { Gives (λ pair. (view pair.0.now, view pair.1.now)) result
+        (spec.pair_at (path_of place.entry) (view value.now)) }
 {
     match value.as_array() {
         Some(items) => two_of(alloc, place, items.as_slice()),
