@@ -1,9 +1,9 @@
 -- The numbers that are missing are those in the gaps.
-use Rattle.std.proofs.Common.{◌≡◌, ℕ, zero, suc, ◌+◌, ◌-◌, ◌<◌, ◌≤◌, Bool, true, false, not, cond, List, [], ◌∷◌, ◌++◌, refl, ap, sym, ◌∙◌, subst, arith, inl, inr}
-use Rattle.std.specs.List.{Contains, filter}
-use Rattle.std.proofs.lemmas.List.Elements.{Contains-append_cases, Contains-append_left, Contains-append_right, filter-append}
+use Rattle.std.proofs.Common.{◌≡◌, ℕ, zero, suc, ◌+◌, ◌-◌, ◌<◌, ◌≤◌, Bool, true, false, not, cond, List, [], ◌∷◌, ◌++◌, refl, ap, sym, ◌∙◌, arith, inl, inr}
+use Rattle.std.specs.List.{filter}
+use Rattle.std.proofs.lemmas.List.Elements.{Contains-append_cases, Contains-append_right, filter-append}
 use Rattle.ic_recvring.specs.Numbers.{numbers_from, Increases, IsRunEnd, IsGreatest, has, missing}
-use Rattle.ic_recvring.proofs.Among.{Contains-head, Contains-tail, head_or_tail, numbers_in, numbers_bound, numbers_from-add, has_there, has_not, same_has}
+use Rattle.ic_recvring.proofs.Among.{Contains-head, Contains-tail, head_or_tail, numbers_bound, numbers_from-add, has_there, has_not, same_has}
 use Rattle.ic_recvring.proofs.Order.{above}
 use Rattle.ic_recvring.proofs.Runs.{last_of, last_of-low, greatest_last, greatest_is_one, consumed_in_run}
 

@@ -1,5 +1,5 @@
 -- Numbers that increase.
-use Rattle.std.proofs.Common.{◌≡◌, ℕ, zero, suc, ◌+◌, ◌<◌, ◌≤◌, List, [], ◌∷◌, ◌++◌, length, take, drop, arith, inl, inr}
+use Rattle.std.proofs.Common.{ℕ, zero, suc, ◌+◌, ◌<◌, ◌≤◌, List, [], ◌∷◌, ◌++◌, length, take, drop, arith, inl, inr}
 use Rattle.std.specs.List.{Contains, AllByRecursion}
 use Rattle.ic_recvring.specs.Numbers.{Increases}
 use Rattle.ic_recvring.proofs.Among.{Contains-none, head_or_tail}

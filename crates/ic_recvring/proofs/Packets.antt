@@ -1,9 +1,9 @@
 -- Kept packets by their numbers: how they are seen, and how one is added or let go.
-use Rattle.std.proofs.Common.{◌≡◌, ℕ, zero, suc, ◌+◌, ◌-◌, ◌<◌, ◌≤◌, ◌==◌, ltb, Bool, true, false, cond, List, [], ◌∷◌, ◌++◌, length, map, take, drop, get_or, insert, Option, Some, None, IsSome, refl, ap, sym, ◌∙◌, subst, arith, inl, inr}
-use Rattle.std.specs.List.{Contains, AllByRecursion, All, filter, find}
+use Rattle.std.proofs.Common.{◌≡◌, ℕ, zero, suc, ◌+◌, ◌-◌, ◌<◌, ◌≤◌, ◌==◌, ltb, true, false, cond, List, [], ◌∷◌, ◌++◌, length, map, take, drop, get_or, insert, Some, None, IsSome, refl, ap, sym, ◌∙◌, subst, arith, inl, inr}
+use Rattle.std.specs.List.{AllByRecursion, All, filter, find}
 use Rattle.std.proofs.lemmas.Bool.Decides.{leb_tells, eqb_tells, nat_tests}
 use Rattle.std.proofs.lemmas.List.{map-append}
-use Rattle.std.proofs.lemmas.List.Elements.{All-append, All-cons, All-filter, All-drop, recursion_from_All}
+use Rattle.std.proofs.lemmas.List.Elements.{All-append, All-cons, All-filter}
 use Rattle.ic_recvring.specs.declared.kept.Kept.{Kept}
 use Rattle.ic_recvring.specs.Numbers.{Increases}
 use Rattle.ic_recvring.specs.Ring.{Packet, numbers, placed}

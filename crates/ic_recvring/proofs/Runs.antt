@@ -1,11 +1,10 @@
 -- Run ends and greatest numbers.
-use Rattle.std.proofs.Common.{◌≡◌, ℕ, zero, suc, ◌+◌, ◌-◌, ◌<◌, ◌≤◌, List, [], ◌∷◌, ◌++◌, take, drop, refl, sym, subst, arith, inl, inr, ◌⊎◌, take-append-drop}
+use Rattle.std.proofs.Common.{◌≡◌, ℕ, zero, suc, ◌+◌, ◌<◌, ◌≤◌, List, [], ◌∷◌, ◌++◌, take, drop, refl, sym, subst, arith, inl, inr, ◌⊎◌, take-append-drop}
 use Rattle.std.specs.List.{Contains, AllByRecursion}
 use Rattle.std.proofs.lemmas.Bool.Decides.{leb_tells}
 use Rattle.std.proofs.lemmas.List.Elements.{Contains-append_cases, Contains-append_left, Contains-append_right}
 use Rattle.ic_recvring.specs.Numbers.{numbers_from, Increases, IsRunEnd, IsGreatest, IsPlace, RunsOn}
 use Rattle.ic_recvring.proofs.Among.{Contains-none, Contains-head, Contains-tail, head_or_tail, numbers_in, numbers_bound}
-use Rattle.ic_recvring.proofs.Order.{above}
 
 -- ---- of any numbers
 

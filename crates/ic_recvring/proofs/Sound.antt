@@ -1,16 +1,16 @@
 -- A ring stays sound when a packet is stored, and when its front is consumed.
-use Rattle.std.proofs.Common.{◌≡◌, ℕ, zero, suc, ◌+◌, ◌-◌, ◌<◌, ◌≤◌, List, [], ◌∷◌, ◌++◌, length, map, take, drop, insert, refl, ap, sym, ◌∙◌, subst, arith, append_assoc, length-append, Vec, vec_capacity, Some}
+use Rattle.std.proofs.Common.{◌≡◌, ℕ, zero, suc, ◌+◌, ◌<◌, ◌≤◌, List, [], ◌∷◌, ◌++◌, length, map, take, drop, insert, refl, ap, sym, ◌∙◌, subst, arith, append_assoc, length-append, Vec, vec_capacity, Some}
 use Rattle.std.specs.declared.alloc.Global.{Global}
 use Rattle.std.specs.List.{AllByRecursion, All, Contains}
 use Rattle.std.proofs.lemmas.List.{drop_at, length-take-le, length-map}
-use Rattle.std.proofs.lemmas.List.Elements.{All-append, All-cons, All-head, All-tail, All-push, All-pop, All-weaker, All-from_recursion, recursion_from_All}
+use Rattle.std.proofs.lemmas.List.Elements.{All-head, All-tail, All-push, All-pop, All-weaker, All-from_recursion, recursion_from_All}
 use Rattle.ic_recvring.specs.declared.kept.Kept.{Kept}
 use Rattle.ic_recvring.specs.Numbers.{numbers_from, Increases, IsRunEnd, IsGreatest, IsPlace, RunsOn}
-use Rattle.ic_recvring.specs.Ring.{Packet, Ring, IsRing, numbers, placed, stored_of, room_of, IsNew}
+use Rattle.ic_recvring.specs.Ring.{Packet, numbers, placed, stored_of, room_of, IsNew}
 use Rattle.ic_recvring.specs.Views.{packet_of, seqs_of, ring_of}
 use Rattle.ic_recvring.specs.Room.{IsSound, HaveRoom, KeepRoom}
 use Rattle.ic_recvring.proofs.Among.{numbers_from-more}
-use Rattle.ic_recvring.proofs.Order.{Increases-placed, Increases-behind, Increases-weaker, length-between}
+use Rattle.ic_recvring.proofs.Order.{Increases-placed, Increases-behind, length-between}
 use Rattle.ic_recvring.proofs.Runs.{last_of, greatest_last, run_end_placed, run_end_is_one, consumed_in_run, place_is_new}
 use Rattle.ic_recvring.proofs.Packets.{numbers_are, seqs_of-insert, placed_is, All-placed, All-inserted, length-inserted, near_numbers}
 

@@ -66,9 +66,8 @@ impl RecvRing {
         })
     }
 
-    /// A packet came. Copies its payload once where it is stored, and takes no memory. A packet in order costs no
-    /// search beyond the logarithm of the depth; one that comes early moves the places, and no bytes, of those behind
-    /// it.
+    /// A packet came. Copies its payload once where it is stored, and takes no memory. It finds its place in as many
+    /// steps as the depth has binary digits; one that comes late moves the places, and no payload, of those behind it.
     pub fn store(&mut self, seq: u32, payload: &[u8], last: bool) -> Store
         ensures stores { (r : ℕ) → IsRunEnd (stored_of self.old) r → Stores self.old r (record { seq = seq; last = last; payload = payload.now }) result self.new }
     {

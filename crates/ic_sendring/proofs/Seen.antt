@@ -5,7 +5,7 @@ use Rattle.std.specs.Option.{option_map}
 use Rattle.std.proofs.lemmas.Bool.Decides.{eqb_tells, nat_tests}
 use Rattle.std.proofs.lemmas.List.Elements.{All-from_recursion, recursion_from_All}
 use Rattle.ic_sendring.specs.declared.slot.Slot.{Slot}
-use Rattle.ic_sendring.specs.Ring.{Packet, Kept, numbers, numbers_from, sent_ones, unsent_ones, with_sent, behind, kept_at, bare}
+use Rattle.ic_sendring.specs.Ring.{Packet, Kept, numbers, numbers_from, sent_ones, unsent_ones, with_sent, behind, bare}
 use Rattle.ic_sendring.specs.Views.{packet_of, kept_of, seen, seqs_of}
 
 pub numbers_are : (n : ℕ) (slots : List Slot) → numbers (seen n slots) ≡ seqs_of slots
@@ -73,7 +73,7 @@ next_is n slots s lt is = ap bare (next_seen n slots ∙ ap (option_map (kept_of
 pub next_none : (n : ℕ) (slots : List Slot) → length slots ≤ n → bare (find (λ (k : Kept). not k.sent) (seen n slots)) ≡ None
 next_none n slots le = ap bare (next_seen n slots ∙ ap (option_map (kept_of false)) (slot_past slots n le))
 
-pub next_within : (n : ℕ) (slots : List Slot) → IsSome (find (λ (k : Kept). not k.sent) (seen n slots)) → n + 1 ≤ length slots
+pub next_within : (n : ℕ) (slots : List Slot) → IsSome (bare (find (λ (k : Kept). not k.sent) (seen n slots))) → n + 1 ≤ length slots
 next_within zero [] some = absurd (cc)
 next_within (suc n) [] some = absurd (cc)
 next_within zero (s ∷ slots) some = omega arith
@@ -100,34 +100,34 @@ none_marked f seq (s ∷ slots) follow lt =
     ap (λ b. (record { packet = packet_of s; sent = b }) ∷ with_sent seq (seen zero slots)) (apart s.seq seq (omega (arith, first, lt)))
     ∙ ap (λ l. kept_of false s ∷ l) (none_marked (f + 1) seq slots (tail_is f s slots follow) (omega (arith, lt)))
 
-pub marked_next : (f n : ℕ) (slots : List Slot) (k : Kept) → seqs_of slots ≡ numbers_from f (length slots) → find (λ (k : Kept). not k.sent) (seen n slots) ≡ Some k → with_sent k.packet.seq (seen n slots) ≡ seen (n + 1) slots
-marked_next f zero [] k follow found = refl
-marked_next f (suc n) [] k follow found = refl
-marked_next f zero (s ∷ slots) k follow found =
-    let here : kept_of false s ≡ k = cc in
+pub marked_next : (f n : ℕ) (slots : List Slot) (p : Packet) → seqs_of slots ≡ numbers_from f (length slots) → bare (find (λ (k : Kept). not k.sent) (seen n slots)) ≡ Some p → with_sent p.seq (seen n slots) ≡ seen (n + 1) slots
+marked_next f zero [] p follow found = refl
+marked_next f (suc n) [] p follow found = refl
+marked_next f zero (s ∷ slots) p follow found =
+    let here : packet_of s ≡ p = cc in
     let first = head_is f s slots follow in
-    let its : s.seq ≡ k.packet.seq = ap (λ (x : Kept). x.packet.seq) here in
-    ap (λ b. (record { packet = packet_of s; sent = b }) ∷ with_sent k.packet.seq (seen zero slots)) (same s.seq k.packet.seq its)
-    ∙ ap (λ l. kept_of true s ∷ l) (none_marked (f + 1) k.packet.seq slots (tail_is f s slots follow) (omega (arith, first, its)))
-marked_next f (suc n) (s ∷ slots) k follow found =
+    let its : s.seq ≡ p.seq = ap (λ (x : Packet). x.seq) here in
+    ap (λ b. (record { packet = packet_of s; sent = b }) ∷ with_sent p.seq (seen zero slots)) (same s.seq p.seq its)
+    ∙ ap (λ l. kept_of true s ∷ l) (none_marked (f + 1) p.seq slots (tail_is f s slots follow) (omega (arith, first, its)))
+marked_next f (suc n) (s ∷ slots) p follow found =
     let more : suc n + 1 ≡ suc (n + 1) = omega arith in
-    ap (λ l. kept_of true s ∷ l) (marked_next (f + 1) n slots k (tail_is f s slots follow) found) ∙ sym (ap (λ m. seen m (s ∷ slots)) more)
+    ap (λ l. kept_of true s ∷ l) (marked_next (f + 1) n slots p (tail_is f s slots follow) found) ∙ sym (ap (λ m. seen m (s ∷ slots)) more)
 
 -- ---- by number
 
-kept_slot : (n seq : ℕ) (slots : List Slot) → bare (kept_at seq (seen n slots)) ≡ option_map packet_of (find (λ (s : Slot). s.seq == seq) slots)
+kept_slot : (n seq : ℕ) (slots : List Slot) → bare (find (λ (k : Kept). k.packet.seq == seq) (seen n slots)) ≡ option_map packet_of (find (λ (s : Slot). s.seq == seq) slots)
 kept_slot zero seq [] = refl
 kept_slot (suc n) seq [] = refl
 kept_slot zero seq (s ∷ slots) = by (s.seq == seq) (kept_slot zero seq slots)
   where
-    by : (b : Bool) → bare (kept_at seq (seen zero slots)) ≡ option_map packet_of (find (λ (s : Slot). s.seq == seq) slots)
-        → bare (cond b (Some (kept_of false s)) (kept_at seq (seen zero slots))) ≡ option_map packet_of (cond b (Some s) (find (λ (s : Slot). s.seq == seq) slots))
+    by : (b : Bool) → bare (find (λ (k : Kept). k.packet.seq == seq) (seen zero slots)) ≡ option_map packet_of (find (λ (s : Slot). s.seq == seq) slots)
+        → bare (cond b (Some (kept_of false s)) (find (λ (k : Kept). k.packet.seq == seq) (seen zero slots))) ≡ option_map packet_of (cond b (Some s) (find (λ (s : Slot). s.seq == seq) slots))
     by true later = refl
     by false later = later
 kept_slot (suc n) seq (s ∷ slots) = by (s.seq == seq) (kept_slot n seq slots)
   where
-    by : (b : Bool) → bare (kept_at seq (seen n slots)) ≡ option_map packet_of (find (λ (s : Slot). s.seq == seq) slots)
-        → bare (cond b (Some (kept_of true s)) (kept_at seq (seen n slots))) ≡ option_map packet_of (cond b (Some s) (find (λ (s : Slot). s.seq == seq) slots))
+    by : (b : Bool) → bare (find (λ (k : Kept). k.packet.seq == seq) (seen n slots)) ≡ option_map packet_of (find (λ (s : Slot). s.seq == seq) slots)
+        → bare (cond b (Some (kept_of true s)) (find (λ (k : Kept). k.packet.seq == seq) (seen n slots))) ≡ option_map packet_of (cond b (Some s) (find (λ (s : Slot). s.seq == seq) slots))
     by true later = refl
     by false later = later
 
@@ -149,7 +149,7 @@ found_slot f seq (s ∷ slots) follow le = by (seq - f) (s.seq == seq) refl (eqb
         let less : seq - (f + 1) ≡ i = omega (arith, is) in
         ap (λ t. cond t (Some s) (find (λ (s : Slot). s.seq == seq) slots)) w.0 ∙ later (omega (arith, is)) ∙ ap (slice_get slots) less
 
-pub found_at : (f n seq : ℕ) (slots : List Slot) → seqs_of slots ≡ numbers_from f (length slots) → f ≤ seq → bare (kept_at seq (seen n slots)) ≡ option_map packet_of (slice_get slots (seq - f))
+pub found_at : (f n seq : ℕ) (slots : List Slot) → seqs_of slots ≡ numbers_from f (length slots) → f ≤ seq → bare (find (λ (k : Kept). k.packet.seq == seq) (seen n slots)) ≡ option_map packet_of (slice_get slots (seq - f))
 found_at f n seq slots follow le = kept_slot n seq slots ∙ ap (option_map packet_of) (found_slot f seq slots follow le)
 
 -- a number below all of them is none's
@@ -159,7 +159,7 @@ none_slot f seq (s ∷ slots) follow lt =
     let first = head_is f s slots follow in
     ap (λ t. cond t (Some s) (find (λ (s : Slot). s.seq == seq) slots)) (apart s.seq seq (omega (arith, first, lt))) ∙ none_slot (f + 1) seq slots (tail_is f s slots follow) (omega (arith, lt))
 
-pub none_at : (f n seq : ℕ) (slots : List Slot) → seqs_of slots ≡ numbers_from f (length slots) → seq < f → bare (kept_at seq (seen n slots)) ≡ None
+pub none_at : (f n seq : ℕ) (slots : List Slot) → seqs_of slots ≡ numbers_from f (length slots) → seq < f → bare (find (λ (k : Kept). k.packet.seq == seq) (seen n slots)) ≡ None
 none_at f n seq slots follow lt = kept_slot n seq slots ∙ ap (option_map packet_of) (none_slot f seq slots follow lt)
 
 -- ---- freeing
@@ -214,10 +214,10 @@ none_stays (suc n) upto [] le = refl
 none_stays n upto (t ∷ slots) le = absurd (omega (arith, le))
 
 -- the packet of a number that is kept
-pub kept_is : (f n seq : ℕ) (slots : List Slot) (s : Slot) → seqs_of slots ≡ numbers_from f (length slots) → f ≤ seq → seq - f < length slots → s ≡ get_or slots (seq - f) s → bare (kept_at seq (seen n slots)) ≡ Some (packet_of s)
+pub kept_is : (f n seq : ℕ) (slots : List Slot) (s : Slot) → seqs_of slots ≡ numbers_from f (length slots) → f ≤ seq → seq - f < length slots → s ≡ get_or slots (seq - f) s → bare (find (λ (k : Kept). k.packet.seq == seq) (seen n slots)) ≡ Some (packet_of s)
 kept_is f n seq slots s follow le lt is = found_at f n seq slots follow le ∙ ap (option_map packet_of) (slot_at slots (seq - f) s lt is)
 
-pub kept_past : (f n seq : ℕ) (slots : List Slot) → seqs_of slots ≡ numbers_from f (length slots) → f ≤ seq → length slots ≤ seq - f → bare (kept_at seq (seen n slots)) ≡ None
+pub kept_past : (f n seq : ℕ) (slots : List Slot) → seqs_of slots ≡ numbers_from f (length slots) → f ≤ seq → length slots ≤ seq - f → bare (find (λ (k : Kept). k.packet.seq == seq) (seen n slots)) ≡ None
 kept_past f n seq slots follow le past = found_at f n seq slots follow le ∙ ap (option_map packet_of) (slot_past slots (seq - f) past)
 
 -- ---- their payloads

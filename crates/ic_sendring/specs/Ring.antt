@@ -71,17 +71,17 @@ Seals s payload last (Err TooLong) after = (length s.kept < s.depth) × (s.seale
 
 -- ---- sending and freeing
 
--- the first packet that wasn't sent
-abbrev pub next_of : Ring → Option Kept
-next_of s = find (λ k. not k.sent) s.kept
-
--- the packet of this number
-abbrev pub kept_at : ℕ → List Kept → Option Kept
-kept_at seq kept = find (λ k. k.packet.seq == seq) kept
-
--- without what was sent and what wasn't
+-- without whether it was sent
 abbrev pub bare : Option Kept → Option Packet
 bare found = option_map (λ k. k.packet) found
+
+-- the first packet that wasn't sent
+abbrev pub next_of : Ring → Option Packet
+next_of s = bare (find (λ k. not k.sent) s.kept)
+
+-- the packet of this number
+abbrev pub packet_at : ℕ → Ring → Option Packet
+packet_at seq s = bare (find (λ k. k.packet.seq == seq) s.kept)
 
 -- this packet, sent now where it has this number
 abbrev pub marked : ℕ → Kept → Kept

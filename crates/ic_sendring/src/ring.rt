@@ -1,6 +1,6 @@
 // The ring of one sending connection.
 ghost use Rattle.std.specs.Prelude.{◌≡◌, ◌+◌, ◌<◌, ◌≤◌, [], drop, length, false, Some, IfOk, IsSome, IsTrue};
-ghost use Rattle.ic_sendring.specs.Ring.{Ring, Kept, IsRing, Seals, empty, room_of, next_of, kept_at, bare, with_sent, behind};
+ghost use Rattle.ic_sendring.specs.Ring.{Packet, IsRing, Seals, empty, room_of, next_of, packet_at, with_sent, behind};
 ghost use Rattle.ic_sendring.specs.Views.{lent};
 
 use crate::fault::SealNo;
@@ -47,18 +47,6 @@ impl Model for SendRing {
     ghost invariant = { λ r. IsSound (ring_of r.depth r.packet r.sealed r.sent r.slots.items) r.sent r.slots.items (deque_capacity r.slots) r.spare.items (vec_capacity r.spare) };
 }
 
-impl Slot {
-    fn lend(&self) -> Sealed<'_>
-        ensures { (result.seq ≡ self.now.seq) × (result.last ≡ self.now.last) × (result.payload.now ≡ self.now.payload.items) }
-    {
-        Sealed {
-            seq: self.seq,
-            last: self.last,
-            payload: self.payload.as_slice(),
-        }
-    }
-}
-
 impl SendRing {
     /// A ring of which nothing was sealed, with room for `depth` payloads of `packet - 64` bytes. The room isn't touched
     /// before a packet is sealed in it.
@@ -97,7 +85,7 @@ impl SendRing {
 
     /// The first packet that wasn't sent.
     pub fn next_unsent(&self) -> Option<Sealed<'_>>
-        ensures value { lent result ≡ bare (next_of self.now) }
+        ensures value { lent result ≡ next_of self.now }
         ensures ring { IsRing self.now }
     {
         match self.slots.get(self.sent) {
@@ -109,7 +97,7 @@ impl SendRing {
     /// Marks the first packet that wasn't sent.
     pub fn sent(&mut self)
         requires { IsSome (next_of self.old) }
-        ensures next { (k : Kept) → next_of self.old ≡ Some k → self.new ≡ record self.old { kept = with_sent k.packet.seq self.old.kept } }
+        ensures next { (p : Packet) → next_of self.old ≡ Some p → self.new ≡ record self.old { kept = with_sent p.seq self.old.kept } }
     {
         self.sent += 1;
     }
@@ -166,7 +154,7 @@ impl SendRing {
 
     /// The packet of this number, with the bytes that were sealed under it, while it is kept.
     pub fn packet(&self, seq: u32) -> Option<Sealed<'_>>
-        ensures value { lent result ≡ bare (kept_at seq self.now.kept) }
+        ensures value { lent result ≡ packet_at seq self.now }
         ensures ring { IsRing self.now }
     {
         if seq > self.sealed {

@@ -2,6 +2,7 @@
 ghost use Rattle.std.specs.Prelude.{◌≡◌, ◌≤◌, length, vec_capacity, IfOk};
 ghost use Rattle.ic_sendring.specs.Room.{HaveRoom};
 
+use crate::sealed::Sealed;
 use std::alloc::{AllocError, Global};
 
 /// A packet that is kept, in a buffer of the ring.
@@ -10,6 +11,20 @@ pub(crate) struct Slot {
     pub seq: u32,
     pub last: bool,
     pub payload: Vec<u8>,
+}
+
+impl Slot {
+    pub(crate) fn lend(&self) -> Sealed<'_>
+        ensures seq { result.seq ≡ self.now.seq }
+        ensures last { result.last ≡ self.now.last }
+        ensures payload { result.payload.now ≡ self.now.payload.items }
+    {
+        Sealed {
+            seq: self.seq,
+            last: self.last,
+            payload: self.payload.as_slice(),
+        }
+    }
 }
 
 /// So many buffers, each with room for so many bytes.

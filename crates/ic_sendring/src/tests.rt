@@ -39,9 +39,10 @@ fn a_packet_gives_its_bytes_again_until_it_is_freed(rt: HostRuntime) -> Result<(
 #[test]
 fn unsent_packets_come_in_order_and_are_freed_too(rt: HostRuntime) -> Result<(), Fail> {
     let mut ring = SendRing::with_depth(rt.alloc(), 4, 128)?;
-    for payload in [b"a", b"b", b"c", b"d"] {
-        assert!(rt; ring.seal(payload.as_slice(), false).is_ok());
-    }
+    assert_eq!(rt; ring.seal(b"a", false), Ok(1));
+    assert_eq!(rt; ring.seal(b"b", false), Ok(2));
+    assert_eq!(rt; ring.seal(b"c", false), Ok(3));
+    assert_eq!(rt; ring.seal(b"d", false), Ok(4));
     for wanted in 1..3 {
         let next = ring.next_unsent().ok_or("no packet")?;
         assert_eq!(rt; next.seq, wanted);

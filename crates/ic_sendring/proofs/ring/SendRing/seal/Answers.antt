@@ -42,8 +42,9 @@ invariant_of-self c =
     let slot : Slot = record { seq = c.in-Some.seq; last = c.args.last; payload = c.filled-payload.result } in
     let roomy = buffer_roomy s.depth s.packet s.sealed s.sent s.slots.items _ s.spare.items _ c.self.invariant c.take_last.new.self.items c.take_last.result c.take_last.ensures.items in
     let short : length c.args.payload.now ≤ room_of s.packet = subst (λ (t : Ring). length c.args.payload.now ≤ room_of t.packet) (sym c.self.view_is) c.requires in
+    let items : c.push_back_reserved.new.self.items ≡ s.slots.items ++ slot ∷ [] = c.push_back_reserved.ensures.items in
     let free : length s.slots.items < s.depth = omega (arith, c.if-len-self.false, c.len.ensures, s.slots.ok.0) in
-    subst (λ l. IsSound (ring_of s.depth s.packet c.in-Some.seq s.sent l) s.sent l (deque_capacity c.push_back_reserved.new.self) c.take_last.new.self.items (vec_capacity c.take_last.new.self)) (sym c.push_back_reserved.ensures.items)
+    subst (λ l. IsSound (ring_of s.depth s.packet c.in-Some.seq s.sent l) s.sent l (deque_capacity c.push_back_reserved.new.self) c.take_last.new.self.items (vec_capacity c.take_last.new.self)) (sym items)
     (sound_sealed s.depth s.packet s.sealed s.sent s.slots.items _ s.spare.items _ c.self.invariant slot c.take_last.new.self.items c.take_last.result _ _ free c.in-Some.ensures.1
     (omega (arith, c.in-Some.ensures.0, c.in-Some.ensures.1)) (subst (λ l. length l ≤ room_of s.packet) (sym c.filled-payload.ensures.bytes) short) (omega (arith, roomy, c.filled-payload.ensures.capacity))
     c.take_last.ensures.items (omega (arith, c.push_back_reserved.ensures.capacity)) (omega (arith, c.take_last.ensures.capacity)))
