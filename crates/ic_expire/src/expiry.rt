@@ -127,8 +127,8 @@ impl Expiry {
         remove_upto(&mut self.items, conn, upto);
     }
 
-    /// Asks at tick `now`, the last question's or a later one, for what is due by then, and takes it out: by due tick, then
-    /// connection, then number. Allocates once, and not at all where nothing is due.
+    /// Asks at tick `now`, the last question's or a later one, for what is due by then, and takes it out: by due tick,
+    /// then connection, then number. Allocates once, and not at all where nothing is due.
     pub fn due(&mut self, alloc: Global, now: u64) -> Result<Dues, AllocError>
         requires { self.old.asked ≤ now }
         ensures ok { IfOk result (λ dues. dues ≡ dues_of now self.old.held) }

@@ -19,7 +19,7 @@ pub record WindowState : Type 0 where
 
 -- ---- events
 
--- what a loss does with flow loss alone
+-- with flow loss what an event makes of a window, and with flow capacity the window as it was
 abbrev pub by_flow : Flow → WindowState → WindowState → WindowState
 by_flow Loss moved still = moved
 by_flow Capacity moved still = still

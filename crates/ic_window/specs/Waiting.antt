@@ -15,7 +15,8 @@ cut ticks = min ticks 64
 abbrev pub first_of : ℕ → RoundTrip
 first_of t = record { smoothed = 8 * t; deviation = 2 * t }
 
--- a later one: each value goes on by a part of what it errs by, the smoothed time by an eighth, the deviation by a quarter
+-- A later one errs by itself less the smoothed time, in whole ticks. The smoothed time goes on by an eighth of that, and
+-- the deviation by a quarter of how far it is from its size.
 abbrev pub later_of : ℕ → RoundTrip → RoundTrip
 later_of t r =
     record {

@@ -20,12 +20,12 @@ const DOUBLINGS: u32 = 5;
 /// A sender's congestion window and its waiting time.
 ///
 /// The window follows RFC 5681 sections 3.1 and 3.2, counted in packets: slow start below the threshold, congestion
-/// avoidance from there on. It differs: it starts at one packet, each loss puts it back to one, and the threshold is half
-/// the window, and not half of what is in flight, but at least one packet. There is no fast recovery. With
+/// avoidance from there on. It differs: it starts at one packet, each loss puts it back to one, and the threshold is
+/// half the window, and not half of what is in flight, but at least one packet. There is no fast recovery. With
 /// `Flow::Capacity` it is always the receive depth.
 ///
-/// The waiting time is RFC 6298's RTO with its backoff, in the integer form of Jacobson 1988, appendix A. It differs: it is
-/// kept within 2..=64 ticks, is 4 ticks before a sample, and a sample counts as 64 ticks at most.
+/// The waiting time is RFC 6298's RTO with its backoff, in the integer form of Jacobson 1988, appendix A. It differs:
+/// it is kept within 2..=64 ticks, is 4 ticks before a sample, and a sample counts as 64 ticks at most.
 #[derive(Clone, Copy, Debug)]
 pub struct Window {
     /// The receive depth in packets, 1..=256.
@@ -115,8 +115,8 @@ impl Window {
         }
     }
 
-    /// An answer freed this many packets. Takes as many steps, until the window is at the depth: some 42,000 at most, at a
-    /// depth of 256.
+    /// An answer freed this many packets. Takes as many steps, until the window is at the depth: some 42,000 at most, at
+    /// a depth of 256.
     pub fn grown(&mut self, packets: u32)
         ensures value { self.new ≡ grown packets self.old }
         ensures stands { IsWindow self.new }
@@ -126,7 +126,7 @@ impl Window {
         }
     }
 
-    /// Packets were lost: called once for all that one answer or one tick found. RFC 5681 section 3.1, as after a timeout.
+    /// Packets were lost: called once for all that one answer or one tick found. RFC 5681 section 3.1, after a timeout.
     pub fn lost(&mut self)
         ensures value { self.new ≡ lost self.old }
         ensures stands { IsWindow self.new }
