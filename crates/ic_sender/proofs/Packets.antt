@@ -6,7 +6,6 @@ use Rattle.std.specs.Option.{option_map}
 use Rattle.std.proofs.lemmas.List.Elements.{All-contains}
 use Rattle.ic_base.specs.declared.keys.ConnEnd.{ConnEnd}
 use Rattle.ic_sendring.specs.Ring.{Ring, IsRing, Kept, Packet, bare, behind, room_of, numbers_from}
-use Rattle.ic_sendring.specs.Ring.{numbers as ring_numbers}
 use Rattle.ic_sendring.specs.Views.{lent}
 use Rattle.ic_sendring.specs.declared.sealed.Sealed.{Sealed}
 use Rattle.ic_law.specs.Packets.{RowPacket}
@@ -17,9 +16,9 @@ use Rattle.ic_sender.specs.Sending.{row_of, kept_at, rows_kept, flight_of}
 use Rattle.ic_sender.specs.Views.{row_in, rows_in, newest_of, one_of, with_newest}
 use Rattle.ic_sender.proofs.Lists.{behind-push, find_same, find_none, find_append, find_behind, map_filter, joined_same, in_behind, find_filter, lt_yes}
 
--- what the ring keeps under a number
+-- what a ring keeps under a number
 abbrev pub ring_at : ℕ → List Kept → Option Kept
-ring_at n kept = find (λ k. k.packet.seq == n) kept
+ring_at n kept = find (λ (k : Kept). k.packet.seq == n) kept
 
 -- a packet of the ring under a number is the packet of rows under it
 pub found_in : (kept : List Kept) (n : ℕ) → kept_at (map (λ (k : Kept). row_in k.packet) kept) n ≡ option_map row_in (bare (ring_at n kept))
