@@ -196,3 +196,15 @@ fn a_repeated_packet_lets_the_window_grow(rt: HostRuntime) -> Result<(), Fail> {
     assert!(rt; begins(&second, 1, Flags::Rows, 2));
     Ok(())
 }
+
+#[test]
+fn a_finished_stream_is_over_once_it_is_acknowledged(rt: HostRuntime) -> Result<(), Fail> {
+    let mut lone = Lone::new(rt.alloc(), 4, 4, Flow::Capacity)?;
+    let _none = lone.put(rt.alloc(), &[1; 60])?;
+    let last = lone.finish(rt.alloc())?;
+    assert!(rt; begins(&last, 1, Flags::LastRows, 1));
+    assert!(rt; !lone.sender.is_over());
+    let _none = lone.ack(rt.alloc(), 1, 0)?;
+    assert!(rt; lone.sender.is_over());
+    Ok(())
+}
