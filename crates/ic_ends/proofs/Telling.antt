@@ -123,3 +123,9 @@ flat_none read (d ∷ ds) none = ap (λ l. l ++ flat_map read ds) (none d (Conta
 pub no_datagram : {A : Type 0} (read : Datagram → List A) (ds : List Datagram) (d : Datagram) (x : A) → flat_map read ds ≡ [] → Contains ds d → read d ≡ x ∷ [] → ⊥
 no_datagram read ds d x none at reads =
     Contains-none x (subst (λ l. Contains l x) none (flat_map-Contains read ds d x at (subst (λ l. Contains l x) (sym reads) (Contains-head x []))))
+
+-- the entry tells nothing of the rows of a connection
+pub record TellsNone (k : ConnKey) (e : Entry) : Type 0 where
+  pub ack : (p : Packet) → Emits e k Ack p → ⊥
+  pub duplicate : (p : Packet) → Emits e k Duplicate p → ⊥
+  pub disorder : (p : Packet) → Emits e k Disorder p → ⊥
