@@ -369,7 +369,7 @@ sending_passes place h e end is ours sends =
     })
 
 -- where a Stop is for an old query, it was asked for
-stops : (h : List Entry) (e : Entry) (k : ConnKey) → IsQuiet h e → StopsAsked k (h ++ e ∷ []) e
+pub stops : (h : List Entry) (e : Entry) (k : ConnKey) → IsQuiet h e → StopsAsked k (h ++ e ∷ []) e
 stops h e k q p w = elim (q.turned k Stop p w) [
   | inl bad ↦ absurd (let apart : Stop ≡ Nak = bad in cc)
   | inr old ↦ inr (old.1.0, subst (λ l. Contains l old.1.0) (sym (left_of-push h e)) (Contains-append_left (left_of h) (leaves e) old.1.0 old.1.1), old.1.2)
