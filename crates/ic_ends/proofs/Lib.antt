@@ -4,3 +4,4 @@ pub mod Lives
 pub mod Nought
 pub mod Ticked
 pub mod Whole
+pub mod ConcernedPoints

@@ -1,5 +1,5 @@
 -- An entry of no end leaves each end standing.
-use Rattle.std.proofs.Common.{◌≡◌, ◌≢◌, ℕ, List, [], ◌∷◌, ◌++◌, Bool, true, false, cond, ◌&&◌, ◌||◌, ◌==◌, Option, Some, None, Result, Ok, Err, refl, ap, sym, ◌∙◌, subst, inl, inr, ◌⊎◌}
+use Rattle.std.proofs.Common.{◌≡◌, ◌≢◌, ℕ, List, [], ◌∷◌, ◌++◌, Bool, true, false, not, cond, ◌&&◌, ◌||◌, ◌==◌, Option, Some, None, Result, Ok, Err, refl, ap, sym, ◌∙◌, subst, inl, inr, ◌⊎◌}
 use Rattle.std.specs.List.{Contains, flat_map, list_any}
 use Rattle.std.proofs.lemmas.List.Elements.{Contains-append_left}
 use Rattle.ic_base.specs.declared.keys.ConnKey.{ConnKey}
@@ -35,7 +35,7 @@ use Rattle.ic_sender.specs.Entries.{IsNothingOf, IsSilent, IsBefore}
 use Rattle.ic_receiver.specs.Entries.{IsSilent as IsSilentReceiving}
 use Rattle.ic_ends.specs.Entries.{IsOurs, IsNought, NoMemory, UnknownPut, UnknownFinish, UnknownHalt, UnknownTakeFrom, UnknownTake, RefusedTake, Begins, Clears, Leaves, Unread, Strange, OfEnded, OfNotBegun, TooLate, RefusedTick}
 use Rattle.ic_ends.specs.Laws.{PassesSending, NoughtPasses}
-use Rattle.ic_ends.proofs.Telling.{rows_not, queries_not_of, answer_not, flat_none, flag_of_true, one_packet, entry_is, TellsNone}
+use Rattle.ic_ends.proofs.Telling.{rows_not, queries_not_of, answer_not, flat_none, flag_of_true, one_packet, entry_is, unread, TellsNone}
 use Rattle.ic_ends.proofs.Concerned.{passes}
 
 -- ---- what it reads as
@@ -276,13 +276,13 @@ ask_is place h e (RefusedTick key seq ask first is) = ask
 -- ---- ends that are here
 
 -- a datagram on an end that is here isn't foreign
-pub not_foreign : (place : Place) (h : List Entry) (d : Datagram) (head : Header) (end : ConnEnd) → IsHere end h → IsOurs place end → key_of head ≡ end.key → end.sending ≡ (cond (goes_forth head.flags) false true)
+pub not_foreign : (place : Place) (h : List Entry) (d : Datagram) (head : Header) (end : ConnEnd) → IsHere end h → IsOurs place end → key_of head ≡ end.key → end.sending ≡ not (goes_forth head.flags)
     → IsDirected (goes_forth head.flags) d end.key → IsForeign place h d head → ⊥
 not_foreign place h d head end here ours key side directed (NoSegment apart) =
     apart (subst IsSegment (ap (λ (k : ConnKey). k.from) (sym key)) ours.from, subst IsSegment (ap (λ (k : ConnKey). k.to) (sym key)) ours.to)
 not_foreign place h d head end here ours key side directed (NotHere apart) = apart (by (goes_forth head.flags) side directed)
   where
-    by : (b : Bool) → end.sending ≡ cond b false true → IsDirected b d end.key → d.to ≡ place.at
+    by : (b : Bool) → end.sending ≡ not b → IsDirected b d end.key → d.to ≡ place.at
     by true receives way = way.1 ∙ ours.receives_here receives
     by false sends way = way.1 ∙ ours.sends_here sends
 not_foreign place h d head end here ours key side directed (Misdirected apart) = apart (subst (IsDirected (goes_forth head.flags) d) (sym key) directed)
@@ -299,15 +299,11 @@ pub record Reaches (place : Place) (h : List Entry) (d : Datagram) (p : Packet) 
   pub live : IsLiveQuery p.head.query h
 
 reaches : (place : Place) (h : List Entry) (d : Datagram) (p : Packet) (end : ConnEnd) (forth : Bool) → IsHere end h → IsOurs place end → key_of p.head ≡ end.key → goes_forth p.head.flags ≡ forth
-    → end.sending ≡ cond forth false true → IsDirected forth d end.key → Reaches place h d p
+    → end.sending ≡ not forth → IsDirected forth d end.key → Reaches place h d p
 reaches place h d p end forth here ours key way side directed = record {
-  own = not_foreign place h d p.head end here ours key (side ∙ ap (λ b. cond b false true) (sym way)) (subst (λ b. IsDirected b d end.key) (sym way) directed);
+  own = not_foreign place h d p.head end here ours key (side ∙ ap not (sym way)) (subst (λ b. IsDirected b d end.key) (sym way) directed);
   live = live_by h p.head end here key;
 }
-
-unread : (d : Datagram) (p : Packet) (fault : HeaderFault) → read_header d.bytes ≡ Err fault → packet_of d ≡ Some p → ⊥
-unfolding packet_of
-unread d p fault bad reads = let apart : None ≡ Some p = sym (ap packet_read bad) ∙ reads in cc
 
 alive : (place : Place) (h : List Entry) (e : Entry) (d : Datagram) (p : Packet) (x : Datagram) (q : Packet) → e.ask ≡ Arrive x → e.ask ≡ Arrive d → packet_of x ≡ Some q → packet_of d ≡ Some p
     → Reaches place h d p → IsLiveQuery q.head.query h
