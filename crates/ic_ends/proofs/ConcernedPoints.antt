@@ -233,7 +233,7 @@ asks_end place c side h e (OfArrive x ask is directed) has = subst (λ a. AsksEn
     not_not false = refl
 
 -- a refused tick answers no other ask
-tick_asked : (ask : HubAsk) (reply : HubReply) (refusal : TickNo) → IsReplyTo ask reply → reply ≡ Ticked (Err refusal) → ask ≡ Tick
+pub tick_asked : (ask : HubAsk) (reply : HubReply) (refusal : TickNo) → IsReplyTo ask reply → reply ≡ Ticked (Err refusal) → ask ≡ Tick
 tick_asked ask reply refusal (inl memory) is = let bad : Memory ≡ Ticked (Err refusal) = sym memory ∙ is in cc
 tick_asked ask reply refusal (inr kind) is = by ask (sym kind ∙ ap kind_replied is)
   where

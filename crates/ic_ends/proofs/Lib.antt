@@ -5,3 +5,5 @@ pub mod Nought
 pub mod Ticked
 pub mod Whole
 pub mod ConcernedPoints
+pub mod NoughtPoints
+pub mod TickPoints

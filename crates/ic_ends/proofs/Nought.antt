@@ -33,7 +33,7 @@ use Rattle.ic_law.proofs.Lists.{Contains-head, Contains-none, Contains-one, flat
 use Rattle.ic_law.proofs.Readings.{rows_in-reads, rows_go_forth, left_of-push}
 use Rattle.ic_sender.specs.Entries.{IsNothingOf, IsSilent, IsBefore}
 use Rattle.ic_receiver.specs.Entries.{IsSilent as IsSilentReceiving}
-use Rattle.ic_ends.specs.Entries.{IsOurs, IsNought, NoMemory, UnknownPut, UnknownFinish, UnknownHalt, UnknownTakeFrom, UnknownTake, RefusedTake, Begins, Clears, Leaves, Unread, Strange, OfEnded, OfNotBegun, TooLate, RefusedTick}
+use Rattle.ic_ends.specs.Entries.{IsOurs, IsNought, NoMemory, UnknownPut, UnknownFinish, UnknownHalt, UnknownTakeFrom, UnknownTake, RefusedTake, Begins, Clears, Leaves, Unread, Strange, EndedQuery, UnbegunQuery, LateAnswer, RefusedTick}
 use Rattle.ic_ends.specs.Laws.{PassesSending, NoughtPasses}
 use Rattle.ic_ends.proofs.Telling.{rows_not, queries_not_of, answer_not, flat_none, flag_of_true, one_packet, entry_is, unread, TellsNone}
 use Rattle.ic_ends.proofs.Concerned.{passes}
@@ -229,9 +229,9 @@ quiet place h e (Clears query ask answers) = void_cleared query h e answers
 quiet place h e (Leaves query ask answers) = void_left query h e answers
 quiet place h e (Unread d fault ask reads is) = void_by h e _ is (record { given = refl; handles = refl; parcels = refl; none = refl; still = refl })
 quiet place h e (Strange d p ask reads foreign is) = void_by h e _ is (record { given = refl; handles = refl; parcels = refl; none = refl; still = refl })
-quiet place h e (OfEnded d p ask reads own dead forth old spelled is) = turned_quiet place h e d p Stop ask reads forth refl refl (inr (refl, old)) spelled is
-quiet place h e (OfNotBegun d p ask reads own dead forth young spelled is) = turned_quiet place h e d p Nak ask reads forth refl refl (inl refl) spelled is
-quiet place h e (TooLate d p ask reads own dead back is) = void_by h e _ is (record { given = refl; handles = refl; parcels = refl; none = refl; still = refl })
+quiet place h e (EndedQuery d p ask reads own dead forth old spelled is) = turned_quiet place h e d p Stop ask reads forth refl refl (inr (refl, old)) spelled is
+quiet place h e (UnbegunQuery d p ask reads own dead forth young spelled is) = turned_quiet place h e d p Nak ask reads forth refl refl (inl refl) spelled is
+quiet place h e (LateAnswer d p ask reads own dead back is) = void_by h e _ is (record { given = refl; handles = refl; parcels = refl; none = refl; still = refl })
 quiet place h e (RefusedTick key seq ask first is) = void_by h e _ is (record { given = refl; handles = refl; parcels = refl; none = refl; still = refl })
 
 -- ---- what it is asked
@@ -250,9 +250,9 @@ ask_in place h e (Clears query ask answers) = Clear query
 ask_in place h e (Leaves query ask answers) = Leave query
 ask_in place h e (Unread d fault ask fails is) = Arrive d
 ask_in place h e (Strange d p ask reads foreign is) = Arrive d
-ask_in place h e (OfEnded d p ask reads own dead forth old spelled is) = Arrive d
-ask_in place h e (OfNotBegun d p ask reads own dead forth young spelled is) = Arrive d
-ask_in place h e (TooLate d p ask reads own dead back is) = Arrive d
+ask_in place h e (EndedQuery d p ask reads own dead forth old spelled is) = Arrive d
+ask_in place h e (UnbegunQuery d p ask reads own dead forth young spelled is) = Arrive d
+ask_in place h e (LateAnswer d p ask reads own dead back is) = Arrive d
 ask_in place h e (RefusedTick key seq ask first is) = Tick
 
 pub ask_is : (place : Place) (h : List Entry) (e : Entry) (n : IsNought place h e) → e.ask ≡ ask_in place h e n
@@ -268,9 +268,9 @@ ask_is place h e (Clears query ask answers) = ask
 ask_is place h e (Leaves query ask answers) = ask
 ask_is place h e (Unread d fault ask fails is) = ask
 ask_is place h e (Strange d p ask reads foreign is) = ask
-ask_is place h e (OfEnded d p ask reads own dead forth old spelled is) = ask
-ask_is place h e (OfNotBegun d p ask reads own dead forth young spelled is) = ask
-ask_is place h e (TooLate d p ask reads own dead back is) = ask
+ask_is place h e (EndedQuery d p ask reads own dead forth old spelled is) = ask
+ask_is place h e (UnbegunQuery d p ask reads own dead forth young spelled is) = ask
+ask_is place h e (LateAnswer d p ask reads own dead back is) = ask
 ask_is place h e (RefusedTick key seq ask first is) = ask
 
 -- ---- ends that are here
@@ -325,9 +325,9 @@ unreached place h e d p (Strange x q ask reads_x foreign is) asked reads r =
     let same : x ≡ d = cc in
     let packet : q ≡ p = one_packet d q p (ap packet_of (sym same) ∙ reads_x) reads in
     absurd (r.own (subst (λ (y : Datagram). IsForeign place h y p.head) same (subst (λ (y : Packet). IsForeign place h x y.head) packet foreign)))
-unreached place h e d p (OfEnded x q ask reads_x own dead forth old spelled is) asked reads r = absurd (dead (alive place h e d p x q ask asked reads_x reads r))
-unreached place h e d p (OfNotBegun x q ask reads_x own dead forth young spelled is) asked reads r = absurd (dead (alive place h e d p x q ask asked reads_x reads r))
-unreached place h e d p (TooLate x q ask reads_x own dead back is) asked reads r = absurd (dead (alive place h e d p x q ask asked reads_x reads r))
+unreached place h e d p (EndedQuery x q ask reads_x own dead forth old spelled is) asked reads r = absurd (dead (alive place h e d p x q ask asked reads_x reads r))
+unreached place h e d p (UnbegunQuery x q ask reads_x own dead forth young spelled is) asked reads r = absurd (dead (alive place h e d p x q ask asked reads_x reads r))
+unreached place h e d p (LateAnswer x q ask reads_x own dead back is) asked reads r = absurd (dead (alive place h e d p x q ask asked reads_x reads r))
 unreached place h e d p n asked reads r = let bad : ask_in place h e n ≡ Arrive d = sym (ask_is place h e n) ∙ asked in cc
 
 -- what is asked of an end that is here isn't refused as unknown
