@@ -1,5 +1,5 @@
 -- An entry of no end leaves each end standing.
-use Rattle.std.proofs.Common.{◌≡◌, ◌≢◌, ℕ, List, [], ◌∷◌, ◌++◌, Bool, true, false, cond, ◌&&◌, ◌||◌, ◌==◌, Option, Some, None, Result, Ok, Err, refl, ap, sym, ◌∙◌, subst, inl, inr, ◌⊎◌}
+use Rattle.std.proofs.Common.{◌≡◌, ◌≢◌, ℕ, List, [], ◌∷◌, ◌++◌, Bool, true, false, not, cond, ◌&&◌, ◌||◌, ◌==◌, Option, Some, None, Result, Ok, Err, refl, ap, sym, ◌∙◌, subst, inl, inr, ◌⊎◌}
 use Rattle.std.specs.List.{Contains, flat_map, list_any}
 use Rattle.std.proofs.lemmas.List.Elements.{Contains-append_left}
 use Rattle.ic_base.specs.declared.keys.ConnKey.{ConnKey}
@@ -33,9 +33,9 @@ use Rattle.ic_law.proofs.Lists.{Contains-head, Contains-none, Contains-one, flat
 use Rattle.ic_law.proofs.Readings.{rows_in-reads, rows_go_forth, left_of-push}
 use Rattle.ic_sender.specs.Entries.{IsNothingOf, IsSilent, IsBefore}
 use Rattle.ic_receiver.specs.Entries.{IsSilent as IsSilentReceiving}
-use Rattle.ic_ends.specs.Entries.{IsOurs, IsNought, NoMemory, UnknownPut, UnknownFinish, UnknownHalt, UnknownTakeFrom, UnknownTake, RefusedTake, Begins, Clears, Leaves, Unread, Strange, OfEnded, OfNotBegun, TooLate, RefusedTick}
+use Rattle.ic_ends.specs.Entries.{IsOurs, IsNought, NoMemory, UnknownPut, UnknownFinish, UnknownHalt, UnknownTakeFrom, UnknownTake, RefusedTake, Begins, Clears, Leaves, Unread, Strange, EndedQuery, UnbegunQuery, LateAnswer, RefusedTick}
 use Rattle.ic_ends.specs.Laws.{PassesSending, NoughtPasses}
-use Rattle.ic_ends.proofs.Telling.{rows_not, queries_not_of, answer_not, flat_none, flag_of_true, one_packet, entry_is, TellsNone}
+use Rattle.ic_ends.proofs.Telling.{rows_not, queries_not_of, answer_not, flat_none, flag_of_true, one_packet, entry_is, unread, TellsNone}
 use Rattle.ic_ends.proofs.Concerned.{passes}
 
 -- ---- what it reads as
@@ -229,9 +229,9 @@ quiet place h e (Clears query ask answers) = void_cleared query h e answers
 quiet place h e (Leaves query ask answers) = void_left query h e answers
 quiet place h e (Unread d fault ask reads is) = void_by h e _ is (record { given = refl; handles = refl; parcels = refl; none = refl; still = refl })
 quiet place h e (Strange d p ask reads foreign is) = void_by h e _ is (record { given = refl; handles = refl; parcels = refl; none = refl; still = refl })
-quiet place h e (OfEnded d p ask reads own dead forth old spelled is) = turned_quiet place h e d p Stop ask reads forth refl refl (inr (refl, old)) spelled is
-quiet place h e (OfNotBegun d p ask reads own dead forth young spelled is) = turned_quiet place h e d p Nak ask reads forth refl refl (inl refl) spelled is
-quiet place h e (TooLate d p ask reads own dead back is) = void_by h e _ is (record { given = refl; handles = refl; parcels = refl; none = refl; still = refl })
+quiet place h e (EndedQuery d p ask reads own dead forth old spelled is) = turned_quiet place h e d p Stop ask reads forth refl refl (inr (refl, old)) spelled is
+quiet place h e (UnbegunQuery d p ask reads own dead forth young spelled is) = turned_quiet place h e d p Nak ask reads forth refl refl (inl refl) spelled is
+quiet place h e (LateAnswer d p ask reads own dead back is) = void_by h e _ is (record { given = refl; handles = refl; parcels = refl; none = refl; still = refl })
 quiet place h e (RefusedTick key seq ask first is) = void_by h e _ is (record { given = refl; handles = refl; parcels = refl; none = refl; still = refl })
 
 -- ---- what it is asked
@@ -250,9 +250,9 @@ ask_in place h e (Clears query ask answers) = Clear query
 ask_in place h e (Leaves query ask answers) = Leave query
 ask_in place h e (Unread d fault ask fails is) = Arrive d
 ask_in place h e (Strange d p ask reads foreign is) = Arrive d
-ask_in place h e (OfEnded d p ask reads own dead forth old spelled is) = Arrive d
-ask_in place h e (OfNotBegun d p ask reads own dead forth young spelled is) = Arrive d
-ask_in place h e (TooLate d p ask reads own dead back is) = Arrive d
+ask_in place h e (EndedQuery d p ask reads own dead forth old spelled is) = Arrive d
+ask_in place h e (UnbegunQuery d p ask reads own dead forth young spelled is) = Arrive d
+ask_in place h e (LateAnswer d p ask reads own dead back is) = Arrive d
 ask_in place h e (RefusedTick key seq ask first is) = Tick
 
 pub ask_is : (place : Place) (h : List Entry) (e : Entry) (n : IsNought place h e) → e.ask ≡ ask_in place h e n
@@ -268,21 +268,21 @@ ask_is place h e (Clears query ask answers) = ask
 ask_is place h e (Leaves query ask answers) = ask
 ask_is place h e (Unread d fault ask fails is) = ask
 ask_is place h e (Strange d p ask reads foreign is) = ask
-ask_is place h e (OfEnded d p ask reads own dead forth old spelled is) = ask
-ask_is place h e (OfNotBegun d p ask reads own dead forth young spelled is) = ask
-ask_is place h e (TooLate d p ask reads own dead back is) = ask
+ask_is place h e (EndedQuery d p ask reads own dead forth old spelled is) = ask
+ask_is place h e (UnbegunQuery d p ask reads own dead forth young spelled is) = ask
+ask_is place h e (LateAnswer d p ask reads own dead back is) = ask
 ask_is place h e (RefusedTick key seq ask first is) = ask
 
 -- ---- ends that are here
 
 -- a datagram on an end that is here isn't foreign
-pub not_foreign : (place : Place) (h : List Entry) (d : Datagram) (head : Header) (end : ConnEnd) → IsHere end h → IsOurs place end → key_of head ≡ end.key → end.sending ≡ (cond (goes_forth head.flags) false true)
+pub not_foreign : (place : Place) (h : List Entry) (d : Datagram) (head : Header) (end : ConnEnd) → IsHere end h → IsOurs place end → key_of head ≡ end.key → end.sending ≡ not (goes_forth head.flags)
     → IsDirected (goes_forth head.flags) d end.key → IsForeign place h d head → ⊥
 not_foreign place h d head end here ours key side directed (NoSegment apart) =
     apart (subst IsSegment (ap (λ (k : ConnKey). k.from) (sym key)) ours.from, subst IsSegment (ap (λ (k : ConnKey). k.to) (sym key)) ours.to)
 not_foreign place h d head end here ours key side directed (NotHere apart) = apart (by (goes_forth head.flags) side directed)
   where
-    by : (b : Bool) → end.sending ≡ cond b false true → IsDirected b d end.key → d.to ≡ place.at
+    by : (b : Bool) → end.sending ≡ not b → IsDirected b d end.key → d.to ≡ place.at
     by true receives way = way.1 ∙ ours.receives_here receives
     by false sends way = way.1 ∙ ours.sends_here sends
 not_foreign place h d head end here ours key side directed (Misdirected apart) = apart (subst (IsDirected (goes_forth head.flags) d) (sym key) directed)
@@ -299,15 +299,11 @@ pub record Reaches (place : Place) (h : List Entry) (d : Datagram) (p : Packet) 
   pub live : IsLiveQuery p.head.query h
 
 reaches : (place : Place) (h : List Entry) (d : Datagram) (p : Packet) (end : ConnEnd) (forth : Bool) → IsHere end h → IsOurs place end → key_of p.head ≡ end.key → goes_forth p.head.flags ≡ forth
-    → end.sending ≡ cond forth false true → IsDirected forth d end.key → Reaches place h d p
+    → end.sending ≡ not forth → IsDirected forth d end.key → Reaches place h d p
 reaches place h d p end forth here ours key way side directed = record {
-  own = not_foreign place h d p.head end here ours key (side ∙ ap (λ b. cond b false true) (sym way)) (subst (λ b. IsDirected b d end.key) (sym way) directed);
+  own = not_foreign place h d p.head end here ours key (side ∙ ap not (sym way)) (subst (λ b. IsDirected b d end.key) (sym way) directed);
   live = live_by h p.head end here key;
 }
-
-unread : (d : Datagram) (p : Packet) (fault : HeaderFault) → read_header d.bytes ≡ Err fault → packet_of d ≡ Some p → ⊥
-unfolding packet_of
-unread d p fault bad reads = let apart : None ≡ Some p = sym (ap packet_read bad) ∙ reads in cc
 
 alive : (place : Place) (h : List Entry) (e : Entry) (d : Datagram) (p : Packet) (x : Datagram) (q : Packet) → e.ask ≡ Arrive x → e.ask ≡ Arrive d → packet_of x ≡ Some q → packet_of d ≡ Some p
     → Reaches place h d p → IsLiveQuery q.head.query h
@@ -329,9 +325,9 @@ unreached place h e d p (Strange x q ask reads_x foreign is) asked reads r =
     let same : x ≡ d = cc in
     let packet : q ≡ p = one_packet d q p (ap packet_of (sym same) ∙ reads_x) reads in
     absurd (r.own (subst (λ (y : Datagram). IsForeign place h y p.head) same (subst (λ (y : Packet). IsForeign place h x y.head) packet foreign)))
-unreached place h e d p (OfEnded x q ask reads_x own dead forth old spelled is) asked reads r = absurd (dead (alive place h e d p x q ask asked reads_x reads r))
-unreached place h e d p (OfNotBegun x q ask reads_x own dead forth young spelled is) asked reads r = absurd (dead (alive place h e d p x q ask asked reads_x reads r))
-unreached place h e d p (TooLate x q ask reads_x own dead back is) asked reads r = absurd (dead (alive place h e d p x q ask asked reads_x reads r))
+unreached place h e d p (EndedQuery x q ask reads_x own dead forth old spelled is) asked reads r = absurd (dead (alive place h e d p x q ask asked reads_x reads r))
+unreached place h e d p (UnbegunQuery x q ask reads_x own dead forth young spelled is) asked reads r = absurd (dead (alive place h e d p x q ask asked reads_x reads r))
+unreached place h e d p (LateAnswer x q ask reads_x own dead back is) asked reads r = absurd (dead (alive place h e d p x q ask asked reads_x reads r))
 unreached place h e d p n asked reads r = let bad : ask_in place h e n ≡ Arrive d = sym (ask_is place h e n) ∙ asked in cc
 
 -- what is asked of an end that is here isn't refused as unknown
@@ -369,7 +365,7 @@ sending_passes place h e end is ours sends =
     })
 
 -- where a Stop is for an old query, it was asked for
-stops : (h : List Entry) (e : Entry) (k : ConnKey) → IsQuiet h e → StopsAsked k (h ++ e ∷ []) e
+pub stops : (h : List Entry) (e : Entry) (k : ConnKey) → IsQuiet h e → StopsAsked k (h ++ e ∷ []) e
 stops h e k q p w = elim (q.turned k Stop p w) [
   | inl bad ↦ absurd (let apart : Stop ≡ Nak = bad in cc)
   | inr old ↦ inr (old.1.0, subst (λ l. Contains l old.1.0) (sym (left_of-push h e)) (Contains-append_left (left_of h) (leaves e) old.1.0 old.1.1), old.1.2)

@@ -1,5 +1,5 @@
 -- What datagrams and asks say of connections that they aren't of.
-use Rattle.std.proofs.Common.{◌≡◌, ℕ, List, [], ◌∷◌, ◌++◌, Bool, true, false, cond, ◌&&◌, ◌||◌, ◌==◌, Option, Some, None, refl, ap, sym, ◌∙◌, subst, inl, inr, ◌⊎◌}
+use Rattle.std.proofs.Common.{◌≡◌, ℕ, List, [], ◌∷◌, ◌++◌, Bool, true, false, cond, ◌&&◌, ◌||◌, ◌==◌, Option, Some, None, Err, refl, ap, sym, ◌∙◌, subst, inl, inr, ◌⊎◌}
 use Rattle.std.specs.List.{Contains, flat_map}
 use Rattle.ic_base.specs.declared.keys.ConnKey.{ConnKey}
 use Rattle.ic_base.specs.declared.datagram.Datagram.{Datagram}
@@ -7,10 +7,12 @@ use Rattle.ic_base.specs.Keys.{key_eq}
 use Rattle.ic_base.proofs.SameKeys.{key_eq-tells, key_eq-same}
 use Rattle.ic_header.specs.declared.flags.Flags.{Flags}
 use Rattle.ic_header.specs.declared.flags.Flags.TheVariants.{Rows, LastRows, Query, Ack, Stop, Nak, Disorder, Duplicate}
+use Rattle.ic_header.specs.declared.fault.HeaderFault.{HeaderFault}
+use Rattle.ic_header.specs.Reading.{read_header}
 use Rattle.ic_law.specs.declared.history.HubAsk.{HubAsk}
 use Rattle.ic_law.specs.declared.history.HubReply.{HubReply}
 use Rattle.ic_law.specs.declared.history.Entry.{Entry}
-use Rattle.ic_law.specs.Packets.{Packet, RowPacket, packet_of, key_of, is_rows, is_last, goes_forth}
+use Rattle.ic_law.specs.Packets.{Packet, RowPacket, packet_read, packet_of, key_of, is_rows, is_last, goes_forth}
 use Rattle.ic_law.specs.History.{emits, rows_read, rows_in, answer_read, answer_in}
 use Rattle.ic_law.specs.Emission.{is_query, queries_read, queries_in}
 use Rattle.ic_law.specs.Points.{Emits}
@@ -129,3 +131,8 @@ pub record TellsNone (k : ConnKey) (e : Entry) : Type 0 where
   pub ack : (p : Packet) → Emits e k Ack p → ⊥
   pub duplicate : (p : Packet) → Emits e k Duplicate p → ⊥
   pub disorder : (p : Packet) → Emits e k Disorder p → ⊥
+
+-- what is no packet reads as none
+pub unread : (d : Datagram) (p : Packet) (fault : HeaderFault) → read_header d.bytes ≡ Err fault → packet_of d ≡ Some p → ⊥
+unfolding packet_of
+unread d p fault bad reads = let none : None ≡ Some p = sym (ap packet_read bad) ∙ reads in cc

@@ -99,11 +99,11 @@ pub data IsNought (place : Place) (h : List Entry) (e : Entry) : Type 0 where
   Leaves : (query : ℕ) → e.ask ≡ Leave query → AnswersLeave query h e.reply → IsNought place h e
   Unread : (d : Datagram) (fault : HeaderFault) → e.ask ≡ Arrive d → read_header d.bytes ≡ Err fault → e.reply ≡ Came (Dropped (cause.Header fault)) [] → IsNought place h e
   Strange : (d : Datagram) (p : Packet) → e.ask ≡ Arrive d → packet_of d ≡ Some p → IsForeign place h d p.head → e.reply ≡ Came (Dropped cause.Foreign) [] → IsNought place h e
-  OfEnded : (d : Datagram) (p : Packet) → e.ask ≡ Arrive d → packet_of d ≡ Some p → (IsForeign place h d p.head → ⊥) → (IsLiveQuery p.head.query h → ⊥) → goes_forth p.head.flags ≡ true → IsOld p.head.query h
+  EndedQuery : (d : Datagram) (p : Packet) → e.ask ≡ Arrive d → packet_of d ≡ Some p → (IsForeign place h d p.head → ⊥) → (IsLiveQuery p.head.query h → ⊥) → goes_forth p.head.flags ≡ true → IsOld p.head.query h
       → Heads (turned_header p.head Stop) [] (turned_back place d p.head Stop).bytes → e.reply ≡ handled (turned_back place d p.head Stop) → IsNought place h e
-  OfNotBegun : (d : Datagram) (p : Packet) → e.ask ≡ Arrive d → packet_of d ≡ Some p → (IsForeign place h d p.head → ⊥) → (IsLiveQuery p.head.query h → ⊥) → goes_forth p.head.flags ≡ true → (IsOld p.head.query h → ⊥)
+  UnbegunQuery : (d : Datagram) (p : Packet) → e.ask ≡ Arrive d → packet_of d ≡ Some p → (IsForeign place h d p.head → ⊥) → (IsLiveQuery p.head.query h → ⊥) → goes_forth p.head.flags ≡ true → (IsOld p.head.query h → ⊥)
       → Heads (turned_header p.head Nak) [] (turned_back place d p.head Nak).bytes → e.reply ≡ handled (turned_back place d p.head Nak) → IsNought place h e
-  TooLate : (d : Datagram) (p : Packet) → e.ask ≡ Arrive d → packet_of d ≡ Some p → (IsForeign place h d p.head → ⊥) → (IsLiveQuery p.head.query h → ⊥) → goes_forth p.head.flags ≡ false
+  LateAnswer : (d : Datagram) (p : Packet) → e.ask ≡ Arrive d → packet_of d ≡ Some p → (IsForeign place h d p.head → ⊥) → (IsLiveQuery p.head.query h → ⊥) → goes_forth p.head.flags ≡ false
       → e.reply ≡ Came (Dropped cause.Late) [] → IsNought place h e
   RefusedTick : (key : ConnKey) (seq : ℕ) → e.ask ≡ Tick → IsFirstSpent place.settings h key seq → e.reply ≡ Ticked (Err (Spent key seq place.settings.retries)) → IsNought place h e
 
