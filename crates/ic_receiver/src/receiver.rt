@@ -12,7 +12,7 @@ ghost use Rattle.ic_receiver.specs.Standing.{Stands, StandsOn, IsUntouched, Take
 use crate::answer::answer;
 use crate::hearing::{hand_over, hear};
 use crate::take_no::TakeNo;
-use ic_base::{ConnEnd, Datagram, Parcel, Settings};
+use ic_base::{ConnEnd, Datagram, Parcel, SegId, Settings};
 use ic_header::Flags;
 use ic_recvring::RecvRing;
 use std::alloc::{AllocError, Global};
@@ -69,6 +69,25 @@ impl Receiver {
         ensures runs { result ≡ false → (settings : _) (h : List Entry) → Stands settings self.now h → IsEnded self.now.end.key h → ⊥ }
     {
         self.whole || self.ring.is_none()
+    }
+
+    /// The segment that sends the rows.
+    pub fn from(&self) -> SegId
+        ensures { result ≡ self.now.end.key.from }
+    {
+        self.end.key.from
+    }
+
+    /// Whether a take would hand a parcel over.
+    pub fn is_ready(&self) -> bool
+        ensures ready { result ≡ true → IsReady self.now }
+        ensures waits { result ≡ false → IsEmpty self.now ⊎ IsOver self.now }
+        ensures none { result ≡ false → (settings : _) (h : List Entry) → Stands settings self.now h → (IsEnded self.now.end.key h → ⊥) → (p : _) → IsNext self.now.end.key h p → ⊥ }
+    {
+        match &self.ring {
+            Some(ring) => !self.whole && ring.front().is_some(),
+            None => false,
+        }
     }
 
     fn hear(

@@ -1,0 +1,6 @@
+pub mod Hubbing
+pub mod Entries
+pub mod Finding
+pub mod Standing
+pub mod Calls
+pub mod Laws

@@ -1,0 +1,18 @@
+// Laws of hubs, each carried by a function that has nothing to run.
+ghost use Rattle.ic_hub.specs.Laws.{KeepsLaw, StaysArmed, LiveTells};
+
+/// Each history for which a hub stands keeps the law of hubs and the law of emission.
+pub fn keeps_law()
+    ensures { KeepsLaw }
+{}
+
+/// Each packet on its way is due soon, and a status query is where nothing is and a packet is unsent, on each connection
+/// that is sent on here.
+pub fn stays_armed()
+    ensures { StaysArmed }
+{}
+
+/// A query is live in a hub exactly where it is in the history.
+pub fn live_tells()
+    ensures { LiveTells }
+{}

@@ -1,0 +1,79 @@
+// Chunks and the end of stream, put by the slice that sends.
+ghost use Rattle.std.specs.Prelude.{◌≡◌, ◌+◌, ◌<◌, ◌≤◌, ◌++◌, [], ◌∷◌, length, List, OnErr};
+ghost use Rattle.ic_law.specs.declared.history.Entry.{Entry};
+ghost use Rattle.ic_law.specs.Asking.{IsPuttable};
+ghost use Rattle.ic_sender.specs.Entries.{IsPutting, IsFinishing};
+ghost use Rattle.ic_hub.specs.Hubbing.{place_in};
+ghost use Rattle.ic_hub.specs.Entries.{put_entry, finish_entry};
+ghost use Rattle.ic_hub.specs.Standing.{Stands};
+ghost use Rattle.ic_hub.specs.Calls.{SamePlace, PutsOn, FinishesOn};
+
+use crate::hub::Hub;
+use crate::query::Query;
+use crate::refusals::put_no;
+use ic_base::{ConnKey, Datagrams};
+use ic_law::HubNo;
+use std::alloc::Global;
+
+impl Query {
+    /// Puts a chunk on the sender at this place. Behind the end of stream nothing is put, and the answer is `Memory`.
+    fn put(&mut self, alloc: Global, place: usize, chunk: &[u8]) -> Result<Datagrams, HubNo>
+        requires here { place < length self.old.senders }
+        requires least { 4 ≤ length chunk.now }
+        requires most { FitsAll self.old (length chunk.now) }
+        ensures { PutsOn self.old self.new place chunk.now result }
+    {
+        let sender = &mut self.senders[place];
+        if sender.is_finished() {
+            return Err(HubNo::Memory);
+        }
+        sender.put(alloc, chunk).map_err(put_no)
+    }
+
+    /// Puts the end of stream on the sender at this place, once.
+    fn finish(&mut self, alloc: Global, place: usize) -> Result<Datagrams, HubNo>
+        requires here { place < length self.old.senders }
+        ensures { FinishesOn self.old self.new place result }
+    {
+        let sender = &mut self.senders[place];
+        if sender.is_finished() {
+            return Err(HubNo::Memory);
+        }
+        sender.finish(alloc).map_err(put_no)
+    }
+}
+
+impl Hub {
+    /// The slice puts a tuple chunk on a connection that it sends on. Gives the packets that are emitted: the chunk is
+    /// copied into the packet that is being filled, and a packet that is sealed is copied into its datagram once. A chunk
+    /// behind the end of stream is answered `Memory`.
+    pub fn put(&mut self, alloc: Global, key: &ConnKey, chunk: &[u8]) -> Result<Datagrams, HubNo>
+        requires chunk { IsPuttable (place_in self.old) chunk.now }
+        ensures err { OnErr result (self.new ≡ self.old) }
+        ensures place { SamePlace self.old self.new }
+        ensures stands { (h : List Entry) → Stands self.old h → Stands self.new (h ++ put_entry key.now chunk.now result ∷ []) }
+    {
+        let Some((query, place)) = self.sender_of(key) else {
+            return Err(HubNo::Unknown {
+                query: key.query,
+                motion: key.motion,
+            });
+        };
+        self.live[query].put(alloc, place, chunk)
+    }
+
+    /// The slice puts the end of stream. Gives the packets that are emitted. A second end is answered `Memory`.
+    pub fn finish(&mut self, alloc: Global, key: &ConnKey) -> Result<Datagrams, HubNo>
+        ensures err { OnErr result (self.new ≡ self.old) }
+        ensures place { SamePlace self.old self.new }
+        ensures stands { (h : List Entry) → Stands self.old h → Stands self.new (h ++ finish_entry key.now result ∷ []) }
+    {
+        let Some((query, place)) = self.sender_of(key) else {
+            return Err(HubNo::Unknown {
+                query: key.query,
+                motion: key.motion,
+            });
+        };
+        self.live[query].finish(alloc, place)
+    }
+}

@@ -1,0 +1,183 @@
+// Parcels that the slice takes, and connections that it halts.
+ghost use Rattle.std.specs.Prelude.{◌≡◌, ◌<◌, ◌++◌, [], ◌∷◌, length, vec_len, vec_capacity, List, OnErr};
+ghost use Rattle.ic_law.specs.declared.history.Entry.{Entry};
+ghost use Rattle.ic_places.specs.Places.{motions_of, receivers_of};
+ghost use Rattle.ic_hub.specs.Entries.{take_entry, take_from_entry, halt_entry};
+ghost use Rattle.ic_hub.specs.Standing.{Stands};
+ghost use Rattle.ic_hub.specs.Calls.{SamePlace, TakesAny, TakesFromOne, HaltsOne};
+
+use crate::hub::Hub;
+use crate::query::Query;
+use crate::refusals::take_no;
+use ic_base::{ConnKey, Datagram, Datagrams, Parcel, SegId};
+use ic_law::HubNo;
+use ic_receiver::Receiver;
+use std::alloc::Global;
+
+/// What comes first in cyclic order behind the segment served last has the least rank.
+fn rank(last: Option<SegId>, from: SegId) -> i32 {
+    let from = from.number();
+    match last {
+        Some(last) if from > last.number() => from - 65,
+        _ => from,
+    }
+}
+
+/// Whether the receiver at this place comes before the first one found so far.
+fn comes_first(
+    receivers: &[Receiver],
+    first: Option<usize>,
+    place: usize,
+    last: Option<SegId>,
+) -> bool {
+    match first {
+        None => true,
+        Some(first) => {
+            rank(last, receivers[place].from()) < rank(last, receivers[first].from())
+        }
+    }
+}
+
+/// The place of the first ready one of the receivers at these places, in cyclic order behind the sender served last.
+fn first_ready(receivers: &[Receiver], places: &[usize], last: Option<SegId>) -> Option<usize> {
+    let mut first: Option<usize> = None;
+    for place in places {
+        if receivers[*place].is_ready() && comes_first(receivers, first, *place, last) {
+            first = Some(*place);
+        }
+    }
+    first
+}
+
+/// Whether none of the receivers at these places has anything more to give.
+fn are_over(receivers: &[Receiver], places: &[usize]) -> bool {
+    places.iter().all(|place| receivers[*place].is_over())
+}
+
+/// One datagram in a list that has room for it.
+pub(crate) fn listed(room: Vec<Datagram>, datagram: Datagram) -> Datagrams
+    requires none { vec_len room ≡ 0 }
+    requires room { 0 < vec_capacity room }
+    ensures { result ≡ datagram ∷ [] }
+{
+    let mut items = room;
+    let _pushed = items.push(datagram);
+    Datagrams::from_vec(items)
+}
+
+/// Nothing, or one datagram in a list that has room for it.
+pub(crate) fn listed_or_none(room: Vec<Datagram>, datagram: Option<Datagram>) -> Datagrams {
+    match datagram {
+        Some(datagram) => listed(room, datagram),
+        None => Datagrams::from_vec(room),
+    }
+}
+
+impl Query {
+    fn take(
+        &mut self,
+        alloc: Global,
+        place: usize,
+    ) -> Result<(Parcel, Datagrams), HubNo>
+        requires here { place < length self.old.receivers }
+        ensures { TakesFromOne self.old self.new place result }
+    {
+        let Ok(room) = Vec::with_capacity(alloc, 1) else {
+            return Err(HubNo::Memory);
+        };
+        let (parcel, told) = self.receivers[place].take(alloc).map_err(take_no)?;
+        Ok((parcel, listed(room, told)))
+    }
+
+    /// A take of any sender of the motion at this place.
+    fn take_any(
+        &mut self,
+        alloc: Global,
+        motion: usize,
+    ) -> Result<(Parcel, Datagrams), HubNo>
+        requires here { motion < length (motions_of self.old.ends) }
+        ensures { TakesAny self.old self.new motion result }
+    {
+        let places = self.places.receivers(motion);
+        let Some(place) = first_ready(self.receivers.as_slice(), places, self.served[motion]) else {
+            if are_over(self.receivers.as_slice(), places) {
+                return Err(HubNo::Ended);
+            }
+            return Err(HubNo::Empty);
+        };
+        let (parcel, told) = self.take(alloc, place)?;
+        self.served[motion] = Some(parcel.from);
+        Ok((parcel, told))
+    }
+
+    fn halt(&mut self, alloc: Global, place: usize) -> Result<Datagrams, HubNo>
+        requires here { place < length self.old.receivers }
+        ensures { HaltsOne self.old self.new place result }
+    {
+        let Ok(room) = Vec::with_capacity(alloc, 1) else {
+            return Err(HubNo::Memory);
+        };
+        match self.receivers[place].halt(alloc) {
+            Ok(told) => Ok(listed_or_none(room, told)),
+            Err(_) => Err(HubNo::Memory),
+        }
+    }
+}
+
+impl Hub {
+    /// The slice takes the next parcel of any sender of a motion: of the first that is ready, in cyclic order behind the
+    /// one served last, at first from the least. Gives it with the answer that tells its sender of the new room. Looks at
+    /// each sender of the motion; copies the payload once.
+    pub fn take(
+        &mut self,
+        alloc: Global,
+        query: u32,
+        motion: u32,
+    ) -> Result<(Parcel, Datagrams), HubNo>
+        ensures err { OnErr result (self.new ≡ self.old) }
+        ensures place { SamePlace self.old self.new }
+        ensures stands { (h : List Entry) → Stands self.old h → Stands self.new (h ++ take_entry query motion result ∷ []) }
+    {
+        let Some(place) = self.place_of(query) else {
+            return Err(HubNo::Unknown { query, motion });
+        };
+        let Some(at) = self.live[place].places.motion(motion) else {
+            return Err(HubNo::Unknown { query, motion });
+        };
+        self.live[place].take_any(alloc, at)
+    }
+
+    /// The slice takes the next parcel of one sender.
+    pub fn take_from(
+        &mut self,
+        alloc: Global,
+        key: &ConnKey,
+    ) -> Result<(Parcel, Datagrams), HubNo>
+        ensures err { OnErr result (self.new ≡ self.old) }
+        ensures place { SamePlace self.old self.new }
+        ensures stands { (h : List Entry) → Stands self.old h → Stands self.new (h ++ take_from_entry key.now result ∷ []) }
+    {
+        let Some((query, place)) = self.receiver_of(key) else {
+            return Err(HubNo::Unknown {
+                query: key.query,
+                motion: key.motion,
+            });
+        };
+        self.live[query].take(alloc, place)
+    }
+
+    /// The slice wants no more of one sender. Gives the datagram that says so, and none where nothing more comes anyway.
+    pub fn halt(&mut self, alloc: Global, key: &ConnKey) -> Result<Datagrams, HubNo>
+        ensures err { OnErr result (self.new ≡ self.old) }
+        ensures place { SamePlace self.old self.new }
+        ensures stands { (h : List Entry) → Stands self.old h → Stands self.new (h ++ halt_entry key.now result ∷ []) }
+    {
+        let Some((query, place)) = self.receiver_of(key) else {
+            return Err(HubNo::Unknown {
+                query: key.query,
+                motion: key.motion,
+            });
+        };
+        self.live[query].halt(alloc, place)
+    }
+}
