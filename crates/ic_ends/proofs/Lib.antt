@@ -7,3 +7,4 @@ pub mod Whole
 pub mod ConcernedPoints
 pub mod NoughtPoints
 pub mod TickPoints
+pub mod Ahead

@@ -7,9 +7,9 @@ use Rattle.ic_law.specs.declared.history.HubAsk.TheVariants.{Take}
 use Rattle.ic_law.specs.declared.history.HubReply.TheVariants.{Memory}
 use Rattle.ic_law.specs.declared.history.Entry.{Entry}
 use Rattle.ic_law.specs.History.{emits}
-use Rattle.ic_law.specs.Points.{Place, IsFormed, IsHere}
+use Rattle.ic_law.specs.Points.{Place, Every, IsFormed, IsHere}
 use Rattle.ic_law.specs.Asking.{IsAllowed}
-use Rattle.ic_law.specs.Arriving.{IsUnknownKey, AnswersTakeAny}
+use Rattle.ic_law.specs.Arriving.{IsLiveQuery, IsOld, IsUnknownKey, AnswersTakeAny}
 use Rattle.ic_law.specs.Emission.{EmissionLaw}
 use Rattle.ic_law.specs.Hub.{HubPoint, HubLaw}
 use Rattle.ic_sender.specs.Entries.{IsSilent, IsBefore}
@@ -70,3 +70,27 @@ LawGoesOn = (place : Place) (h : List Entry) (e : Entry) → HubLaw place h → 
 -- what each end emits is what is due, where each keeps its points
 abbrev pub EmissionGoesOn : Type 0
 EmissionGoesOn = (place : Place) (h : List Entry) (e : Entry) → EmissionLaw place h → EndsKeep place h e → EmissionLaw place (h ++ e ∷ [])
+
+-- ---- ends to come
+
+-- the entry is about an end that is here, about none, or a tick
+pub data IsAbout (place : Place) (h : List Entry) (e : Entry) : Type 0 where
+  AboutEnd : (c : ConnKey) (side : Bool) → Concerns place c side e → HasEnd place c side h → IsAbout place h e
+  AboutNone : IsNought place h e → IsAbout place h e
+  AboutTicks : IsTick h e → IsAbout place h e
+
+-- nothing in the history is of this end, which wasn't there
+pub record IsAhead (end : ConnEnd) (h : List Entry) : Type 0 where
+  pub sends : Every (IsBefore end) h
+  pub receives : Every (IsSilentReceiving end) h
+
+-- an end whose query isn't live, and of which nothing was, has nothing with one more entry; so has one that begins with it
+abbrev pub StaysAhead : Type 0
+StaysAhead = (place : Place) (h : List Entry) (e : Entry) (end : ConnEnd) → IsAbout place h e → (IsLiveQuery end.key.query h → ⊥) → IsAhead end h → IsAhead end (h ++ e ∷ [])
+
+-- of each end of this place whose query was never begun, nothing was
+abbrev pub AreAhead : Place → List Entry → Type 0
+AreAhead place h = (end : ConnEnd) → IsOurs place end → (IsLiveQuery end.key.query h → ⊥) → (IsOld end.key.query h → ⊥) → IsAhead end h
+
+abbrev pub AheadGoesOn : Type 0
+AheadGoesOn = (place : Place) (h : List Entry) (e : Entry) → IsAbout place h e → AreAhead place h → AreAhead place (h ++ e ∷ [])

@@ -4,4 +4,8 @@
 
 mod laws;
 
-pub use laws::concerned_passes;
+pub use laws::{
+    ahead_goes_on, concerned_passes, concerned_point, emission_goes_on, law_goes_on, live_once,
+    lives_from, lives_on, lives_until, nought_passes, nought_point, stays_ahead, tick_passes,
+    tick_point,
+};
