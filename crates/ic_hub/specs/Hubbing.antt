@@ -9,6 +9,7 @@ use Rattle.ic_base.specs.Settings.{AreChecked}
 use Rattle.ic_conntab.specs.Table.{Table}
 use Rattle.ic_law.specs.Points.{Place, place_at}
 use Rattle.ic_law.specs.Asking.{AreEnds}
+use Rattle.ic_ends.specs.Entries.{IsOurs}
 use Rattle.ic_outgoing.specs.Outgoing.{OutgoingState}
 use Rattle.ic_places.specs.Ends.{sending_ends, receiving_ends, keys_of, motions_of}
 use Rattle.ic_receiver.specs.Receiving.{Receiving}
@@ -58,6 +59,7 @@ pub record IsLiving (l : Living) : Type 0 where
 -- the ends of a query are ends here, and its connections are of this hub's settings and at its tick
 pub record IsOfHub (place : Place) (now : ℕ) (l : Living) : Type 0 where
   pub ends : AreEnds place l.number l.ends
+  pub ours : AllByRecursion (IsOurs place) l.ends
   pub settings : AllByRecursion (λ (o : OutgoingState). o.sending.settings ≡ place.settings) l.senders
   pub now_is : AllByRecursion (λ (o : OutgoingState). o.now ≡ now) l.senders
 

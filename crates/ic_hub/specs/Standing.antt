@@ -4,8 +4,8 @@ use Rattle.ic_base.specs.declared.keys.ConnEnd.{ConnEnd}
 use Rattle.ic_base.specs.declared.settings.Settings.{Settings}
 use Rattle.ic_law.specs.declared.history.Entry.{Entry}
 use Rattle.ic_law.specs.History.{left_of}
-use Rattle.ic_law.specs.Points.{Every, IsLive}
-use Rattle.ic_law.specs.Arriving.{IsLiveQuery, IsOld, LastServed, IsGreatestLeft}
+use Rattle.ic_law.specs.Points.{IsLive}
+use Rattle.ic_law.specs.Arriving.{LastServed, IsGreatestLeft}
 use Rattle.ic_law.specs.Emission.{clock_of, EmissionLaw}
 use Rattle.ic_law.specs.Hub.{HubLaw}
 use Rattle.ic_outgoing.specs.Outgoing.{OutgoingState}
@@ -13,9 +13,7 @@ use Rattle.ic_outgoing.specs.Standing.{Stands as SenderStands}
 use Rattle.ic_places.specs.Ends.{motions_of}
 use Rattle.ic_receiver.specs.Receiving.{Receiving}
 use Rattle.ic_receiver.specs.Standing.{Stands as ReceiverStands}
-use Rattle.ic_receiver.specs.Entries.{IsSilent}
-use Rattle.ic_sender.specs.Entries.{IsBefore}
-use Rattle.ic_ends.specs.Entries.{IsOurs}
+use Rattle.ic_ends.specs.Laws.{AreAhead}
 use Rattle.ic_hub.specs.Hubbing.{Hubbing, Living, place_in}
 
 -- each connection of a live query stands for the history, and the takes of any served these senders last
@@ -37,11 +35,6 @@ pub record IsAmong (live : List Living) (query : ℕ) (ends : List ConnEnd) : Ty
   pub number : living.number ≡ query
   pub ends_are : living.ends ≡ ends
 
--- nothing in the history is of this end, which isn't there yet
-pub record IsAhead (end : ConnEnd) (h : List Entry) : Type 0 where
-  pub sends : Every (IsBefore end) h
-  pub receives : Every (IsSilent end) h
-
 -- A hub stands for a history that keeps the law of hubs and the law of emission, and is what the history says of it.
 pub record Stands (s : Hubbing) (h : List Entry) : Type 0 where
   pub law : HubLaw (place_in s) h
@@ -50,4 +43,4 @@ pub record Stands (s : Hubbing) (h : List Entry) : Type 0 where
   pub top : IsTop s.top h
   pub live : (query : ℕ) (ends : List ConnEnd) → IsLive query ends h ↔ IsAmong s.live query ends
   pub each : (i : ℕ) (l : Living) → slice_get s.live i ≡ Some l → LivingStands s.settings l h
-  pub ahead : (end : ConnEnd) → IsOurs (place_in s) end → (IsLiveQuery end.key.query h → ⊥) → (IsOld end.key.query h → ⊥) → IsAhead end h
+  pub ahead : AreAhead (place_in s) h
