@@ -1,23 +1,31 @@
 -- Of an end whose query was never begun, nothing was.
-use Rattle.std.proofs.Common.{◌≡◌, ℕ, List, [], ◌∷◌, ◌++◌, Bool, false, refl, ap, sym, ◌∙◌, subst, arith}
+use Rattle.std.proofs.Common.{◌≡◌, ℕ, true, List, [], ◌∷◌, ◌++◌, Bool, false, refl, ap, sym, ◌∙◌, subst, arith}
 use Rattle.std.specs.List.{Contains}
 use Rattle.std.proofs.lemmas.List.Elements.{Contains-append_left, Contains-append_right}
 use Rattle.ic_base.specs.declared.keys.ConnKey.{ConnKey}
 use Rattle.ic_base.specs.declared.keys.ConnEnd.{ConnEnd}
 use Rattle.ic_header.specs.declared.flags.Flags.TheVariants.{Ack, Stop, Disorder, Duplicate}
+use Rattle.ic_law.specs.declared.history.HubAsk.TheVariants.{Take}
 use Rattle.ic_law.specs.declared.history.Entry.{Entry}
 use Rattle.ic_law.specs.History.{leaves, left_of}
 use Rattle.ic_law.specs.Points.{Place, IsHere}
 use Rattle.ic_law.specs.Arriving.{IsLiveQuery, IsOld}
-use Rattle.ic_law.proofs.Readings.{every_push, left_of-push}
+use Rattle.ic_law.specs.Arriving.{AnswersTakeAny}
+use Rattle.ic_law.specs.Emission.{EmitsDue}
+use Rattle.ic_law.specs.Hub.{HubPoint}
+use Rattle.ic_law.proofs.Readings.{every_none, every_push, left_of-push}
 use Rattle.ic_sender.specs.Entries.{IsBefore}
 use Rattle.ic_receiver.specs.Entries.{IsSilent as IsSilentReceiving}
 use Rattle.ic_ends.specs.Entries.{HasEnd}
-use Rattle.ic_ends.specs.Laws.{IsAbout, AboutEnd, AboutNone, AboutTicks, StaysAhead, AheadGoesOn}
+use Rattle.ic_ends.specs.Laws.{IsAbout, AboutEnd, AboutNone, AboutTicks, StaysAhead, AheadGoesOn, Holds, GoesFirst, GoesOn}
 use Rattle.ic_ends.proofs.Concerned.{nothing_of, receives_apart, answers_none}
 use Rattle.ic_ends.proofs.Nought.{quiet, stops, tells_none}
 use Rattle.ic_ends.proofs.Ticked.{tick_nothing, tick_passes}
 use Rattle.ic_ends.proofs.Lives.{live_push}
+use Rattle.ic_ends.proofs.Whole.{law_goes_on, emission_goes_on}
+use Rattle.ic_ends.proofs.ConcernedPoints.{concerned_point}
+use Rattle.ic_ends.proofs.NoughtPoints.{nought_point}
+use Rattle.ic_ends.proofs.TickPoints.{tick_point}
 
 -- ---- an end whose query isn't live
 
@@ -87,7 +95,29 @@ old_now : (q : ℕ) (h : List Entry) (e : Entry) → Contains (leaves e) q → I
 old_now q h e at = (q, subst (λ l. Contains l q) (sym (left_of-push h e)) (Contains-append_right (left_of h) (leaves e) q at), omega arith)
 
 pub ahead_goes_on : AheadGoesOn
-ahead_goes_on place h e is ahead end ours dead young =
+ahead_goes_on place h e is ahead end dead young =
     let q = end.key.query in
     let dead_before : IsLiveQuery q h → ⊥ = (λ live. dead (live.0, live_push q live.0 h e live.1 (λ at. young (old_now q h e at)))) in
-    stays_ahead place h e end is dead_before (ahead end ours dead_before (λ old. young (old_before q h e old)))
+    stays_ahead place h e end is dead_before (ahead end dead_before (λ old. young (old_before q h e old)))
+
+-- ---- all of it
+
+-- the points of the entry
+about_point : (place : Place) (h : List Entry) (e : Entry) → IsAbout place h e → Holds place h e → ((query motion : ℕ) → e.ask ≡ Take query motion → AnswersTakeAny query motion h e.reply) → HubPoint place h e
+about_point place h e (AboutEnd c side is has) holds take = concerned_point place c side h e is has holds take
+about_point place h e (AboutNone is) holds take = nought_point place h e is holds
+about_point place h e (AboutTicks is) holds take = tick_point place h e is holds
+
+pub goes_on : GoesOn
+goes_on place h e is holds take emission ahead = record {
+  law = law_goes_on place h e holds.law (about_point place h e is holds take);
+  emission = emission_goes_on place h e emission holds.keeps;
+  ahead = ahead_goes_on place h e is ahead;
+}
+
+pub goes_first : GoesFirst
+goes_first place = record {
+  law = every_none (HubPoint place);
+  emission = every_none (λ before e. (end : ConnEnd) → end.sending ≡ true → IsHere end before → EmitsDue place.settings end before e);
+  ahead = λ end dead young. record { sends = every_none (IsBefore end); receives = every_none (IsSilentReceiving end) };
+}

@@ -8,3 +8,6 @@ pub mod ConcernedPoints
 pub mod NoughtPoints
 pub mod TickPoints
 pub mod Ahead
+pub mod Forms
+pub mod Served
+pub mod Beside

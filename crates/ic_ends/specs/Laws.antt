@@ -88,9 +88,25 @@ pub record IsAhead (end : ConnEnd) (h : List Entry) : Type 0 where
 abbrev pub StaysAhead : Type 0
 StaysAhead = (place : Place) (h : List Entry) (e : Entry) (end : ConnEnd) → IsAbout place h e → (IsLiveQuery end.key.query h → ⊥) → IsAhead end h → IsAhead end (h ++ e ∷ [])
 
--- of each end of this place whose query was never begun, nothing was
-abbrev pub AreAhead : Place → List Entry → Type 0
-AreAhead place h = (end : ConnEnd) → IsOurs place end → (IsLiveQuery end.key.query h → ⊥) → (IsOld end.key.query h → ⊥) → IsAhead end h
+-- of each end whose query was never begun, nothing was
+abbrev pub AreAhead : List Entry → Type 0
+AreAhead h = (end : ConnEnd) → (IsLiveQuery end.key.query h → ⊥) → (IsOld end.key.query h → ⊥) → IsAhead end h
 
 abbrev pub AheadGoesOn : Type 0
-AheadGoesOn = (place : Place) (h : List Entry) (e : Entry) → IsAbout place h e → AreAhead place h → AreAhead place (h ++ e ∷ [])
+AheadGoesOn = (place : Place) (h : List Entry) (e : Entry) → IsAbout place h e → AreAhead h → AreAhead (h ++ e ∷ [])
+
+-- ---- all of it goes on
+
+-- what a hub keeps of its whole history
+pub record Goes (place : Place) (h : List Entry) : Type 0 where
+  pub law : HubLaw place h
+  pub emission : EmissionLaw place h
+  pub ahead : AreAhead h
+
+abbrev pub GoesFirst : Type 0
+GoesFirst = (place : Place) → Goes place []
+
+-- with an entry about an end that is here, about none, or a tick, where each end keeps its points
+abbrev pub GoesOn : Type 0
+GoesOn = (place : Place) (h : List Entry) (e : Entry) → IsAbout place h e → Holds place h e → ((query motion : ℕ) → e.ask ≡ Take query motion → AnswersTakeAny query motion h e.reply)
+    → EmissionLaw place h → AreAhead h → Goes place (h ++ e ∷ [])

@@ -1,6 +1,8 @@
 // Laws of the ends of one segment, each carried by a function that has nothing to run.
+ghost use Rattle.ic_ends.specs.Serving.{ServedBefore, ServedNow, ServedNobody};
+ghost use Rattle.ic_ends.specs.Formed.{AnswersAreFormed, TurnedIsFormed};
 ghost use Rattle.ic_ends.specs.Living.{OthersLiveOn, BegunIsLive, LeftIsNotLive, LiveOnce};
-ghost use Rattle.ic_ends.specs.Laws.{ConcernedPasses, NoughtPasses, TickPasses, ConcernedPoint, NoughtPoint, TickPoint, LawGoesOn, EmissionGoesOn, StaysAhead, AheadGoesOn};
+ghost use Rattle.ic_ends.specs.Laws.{GoesFirst, GoesOn, ConcernedPasses, NoughtPasses, TickPasses, ConcernedPoint, NoughtPoint, TickPoint, LawGoesOn, EmissionGoesOn, StaysAhead, AheadGoesOn};
 
 /// An entry about one end leaves every other end standing.
 pub fn concerned_passes()
@@ -70,4 +72,39 @@ pub fn stays_ahead()
 /// Of the ends whose queries were never begun, nothing was.
 pub fn ahead_goes_on()
     ensures { AheadGoesOn }
+{}
+
+/// An empty history has all that a hub keeps of it.
+pub fn goes_first()
+    ensures { GoesFirst }
+{}
+
+/// All that a hub keeps of its history goes on with an entry at which each end keeps its points.
+pub fn goes_on()
+    ensures { GoesOn }
+{}
+
+/// An entry that serves no sender of a motion leaves the one served last.
+pub fn served_before()
+    ensures { ServedBefore }
+{}
+
+/// An entry that serves a sender has served it last.
+pub fn served_now()
+    ensures { ServedNow }
+{}
+
+/// Of a query that was never begun no sender was served.
+pub fn served_nobody()
+    ensures { ServedNobody }
+{}
+
+/// An answer of a receiving end is of its connection, and has the form of what a hub may emit.
+pub fn answers_formed()
+    ensures { AnswersAreFormed }
+{}
+
+/// So has what is turned back to a datagram of no connection that isn't foreign.
+pub fn turned_formed()
+    ensures { TurnedIsFormed }
 {}

@@ -5,7 +5,5 @@
 mod laws;
 
 pub use laws::{
-    ahead_goes_on, concerned_passes, concerned_point, emission_goes_on, law_goes_on, live_once,
-    lives_from, lives_on, lives_until, nought_passes, nought_point, stays_ahead, tick_passes,
-    tick_point,
+    ahead_goes_on, answers_formed, concerned_passes, concerned_point, emission_goes_on, goes_first, goes_on, law_goes_on, live_once, lives_from, lives_on, lives_until, nought_passes, nought_point, served_before, served_nobody, served_now, stays_ahead, tick_passes, tick_point, turned_formed,
 };
