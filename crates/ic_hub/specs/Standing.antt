@@ -6,14 +6,13 @@ use Rattle.ic_law.specs.declared.history.Entry.{Entry}
 use Rattle.ic_law.specs.History.{left_of}
 use Rattle.ic_law.specs.Points.{IsLive}
 use Rattle.ic_law.specs.Arriving.{LastServed, IsGreatestLeft}
-use Rattle.ic_law.specs.Emission.{clock_of, EmissionLaw}
-use Rattle.ic_law.specs.Hub.{HubLaw}
+use Rattle.ic_law.specs.Emission.{clock_of}
 use Rattle.ic_outgoing.specs.Outgoing.{OutgoingState}
 use Rattle.ic_outgoing.specs.Standing.{Stands as SenderStands}
 use Rattle.ic_places.specs.Ends.{motions_of}
 use Rattle.ic_receiver.specs.Receiving.{Receiving}
 use Rattle.ic_receiver.specs.Standing.{Stands as ReceiverStands}
-use Rattle.ic_ends.specs.Laws.{AreAhead}
+use Rattle.ic_ends.specs.Laws.{Goes}
 use Rattle.ic_hub.specs.Hubbing.{Hubbing, Living, place_in}
 
 -- each connection of a live query stands for the history, and the takes of any served these senders last
@@ -35,12 +34,10 @@ pub record IsAmong (live : List Living) (query : ℕ) (ends : List ConnEnd) : Ty
   pub number : living.number ≡ query
   pub ends_are : living.ends ≡ ends
 
--- A hub stands for a history that keeps the law of hubs and the law of emission, and is what the history says of it.
+-- A hub stands for a history that keeps the laws of hubs, and is what the history says of it.
 pub record Stands (s : Hubbing) (h : List Entry) : Type 0 where
-  pub law : HubLaw (place_in s) h
-  pub emission : EmissionLaw (place_in s) h
+  pub goes : Goes (place_in s) h
   pub clock : clock_of h ≡ s.now
   pub top : IsTop s.top h
   pub live : (query : ℕ) (ends : List ConnEnd) → IsLive query ends h ↔ IsAmong s.live query ends
   pub each : (i : ℕ) (l : Living) → slice_get s.live i ≡ Some l → LivingStands s.settings l h
-  pub ahead : AreAhead (place_in s) h

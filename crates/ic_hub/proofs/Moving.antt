@@ -1,0 +1,411 @@
+-- A hub stands on with an entry about one end, where that end's connection does.
+use Rattle.std.proofs.Common.{◌≡◌, ◌≢◌, ◌↔◌, ℕ, zero, suc, ◌+◌, ℤ, List, [], ◌∷◌, ◌++◌, set, map, Bool, true, false, ◌==◌, Option, Some, None, Result, Ok, refl, ap, sym, ◌∙◌, subst, arith, inl, inr, ◌⊎◌, slice_get, min}
+use Rattle.std.specs.List.{AllByRecursion, Contains}
+use Rattle.ic_base.specs.declared.keys.ConnKey.{ConnKey}
+use Rattle.ic_base.specs.declared.keys.ConnEnd.{ConnEnd}
+use Rattle.ic_base.specs.declared.settings.Settings.{Settings}
+use Rattle.ic_base.specs.declared.datagram.Datagram.{Datagram}
+use Rattle.ic_base.specs.declared.datagram.Parcel.{Parcel}
+use Rattle.ic_law.specs.declared.history.HubAsk.TheVariants.{Begin, Put, Finish, Take, TakeFrom, Halt, Arrive, Leave}
+use Rattle.ic_law.specs.declared.history.HubReply.TheVariants.{Took, Memory}
+use Rattle.ic_law.specs.declared.history.Entry.{Entry}
+use Rattle.ic_law.specs.History.{emits, was_begun, leaves, left_by, left_of}
+use Rattle.ic_law.specs.Points.{Place, place_at, IsFormed, IsLive, IsHere}
+use Rattle.ic_law.specs.Asking.{IsAllowed}
+use Rattle.ic_law.specs.Arriving.{IsServed, LastServed, IsGreatestLeft, AnswersTakeAny}
+use Rattle.ic_law.specs.Emission.{last_tick, ticks_by, ticks_of, clock_of}
+use Rattle.ic_law.specs.Receiving.{Receives}
+use Rattle.ic_places.specs.Ends.{motions_of}
+use Rattle.ic_receiver.specs.Receiving.{Receiving}
+use Rattle.ic_receiver.specs.Standing.{Stands as ReceiverStands}
+use Rattle.ic_receiver.proofs.Others.{stands_silent}
+use Rattle.ic_sender.specs.Standing.{KeepsSending}
+use Rattle.ic_outgoing.specs.Outgoing.{OutgoingState, SameEnd}
+use Rattle.ic_outgoing.specs.Standing.{Stands as SenderStands}
+use Rattle.ic_outgoing.proofs.Steps.{others_pass}
+use Rattle.ic_ends.specs.Entries.{IsOurs, HasEnd, EndsKeep, AsksOf, OfPut, OfFinish, OfTakeFrom, OfHalt, OfTake, OfArrive, Concerns}
+use Rattle.ic_ends.specs.Living.{LivesOn}
+use Rattle.ic_ends.specs.Laws.{IsAbout, AboutEnd, Holds, Goes}
+use Rattle.ic_ends.proofs.Concerned.{still_then, concerned_passes}
+use Rattle.ic_ends.proofs.Lives.{lives_on}
+use Rattle.ic_ends.proofs.Ahead.{goes_on}
+use Rattle.ic_ends.proofs.Served.{served_before}
+use Rattle.ic_ends.proofs.Beside.{set_cases}
+use Rattle.ic_hub.specs.Hubbing.{Hubbing, Living, IsLiving, IsOfHub, place_in}
+use Rattle.ic_hub.specs.Standing.{LivingStands, IsTop, IsAmong, Stands}
+use Rattle.ic_hub.specs.Calls.{SamePlace}
+use Rattle.ic_hub.proofs.Places.{Shaped, SenderOf, ReceiverOf, sender_of, receiver_of, end_of_sender, end_of_receiver, number_of, one_sender, one_receiver, all_at, contains_at}
+
+-- ---- lists
+
+-- what stood at a place stands there still, or was replaced
+pub set_on : {A : Type 0} (xs : List A) (i j : ℕ) (d b : A) → slice_get xs j ≡ Some b → ((i ≡ j) × (slice_get (set xs i d) j ≡ Some d)) ⊎ ((i ≢ j) × (slice_get (set xs i d) j ≡ Some b))
+set_on [] i j d b h = let bad : None ≡ Some b = h in cc
+set_on (x ∷ xs) zero zero d b h = inl (refl, refl)
+set_on (x ∷ xs) zero (suc j) d b h = inr (λ e. absurd (omega (arith, e)), h)
+set_on (x ∷ xs) (suc i) zero d b h = inr (λ e. absurd (omega (arith, e)), h)
+set_on (x ∷ xs) (suc i) (suc j) d b h = elim (set_on xs i j d b h) [ inl w ↦ inl (ap suc w.0, w.1) | inr w ↦ inr (λ e. w.0 (omega (arith, e)), w.1) ]
+
+-- ---- places
+
+pub same_place : (s new : Hubbing) → SamePlace s new → place_in new ≡ place_in s
+same_place s new p = ap (λ x. place_at x new.at new.settings) p.session ∙ ap (λ x. place_at s.session x new.settings) p.at ∙ ap (λ x. place_at s.session s.at x) p.settings
+
+-- ---- the same queries
+
+-- each query is there still, in its place, with its ends, and there is no other
+pub record SameQueries (live new : List Living) : Type 0 where
+  pub on : (i : ℕ) (l : Living) → slice_get live i ≡ Some l → (m : Living) × (slice_get new i ≡ Some m) × (m.number ≡ l.number) × (m.ends ≡ l.ends)
+  pub back : (i : ℕ) (m : Living) → slice_get new i ≡ Some m → (l : Living) × (slice_get live i ≡ Some l) × (m.number ≡ l.number) × (m.ends ≡ l.ends)
+
+pub same_queries : (live : List Living) → SameQueries live live
+same_queries live = record { on = λ i l at. (l, at, refl, refl); back = λ i l at. (l, at, refl, refl) }
+
+-- one query is replaced by one with its number and its ends
+pub one_replaced : (live : List Living) (q : ℕ) (l m : Living) → slice_get live q ≡ Some l → m.number ≡ l.number → m.ends ≡ l.ends → SameQueries live (set live q m)
+one_replaced live q l m here number ends =
+    record {
+      on = λ i x at. elim (set_on live q i m x at) [
+        | inl w ↦ (let same = is_l i x at w.0 in (m, w.1, number ∙ ap (λ (y : Living). y.number) same, ends ∙ ap (λ (y : Living). y.ends) same))
+        | inr w ↦ (x, w.1, refl, refl)
+      ];
+      back = λ i x at. elim (set_cases live q i m x at) [
+        | inl w ↦ (l, ap (λ n. slice_get live n) (sym w.0) ∙ here, ap (λ (y : Living). y.number) w.1 ∙ number, ap (λ (y : Living). y.ends) w.1 ∙ ends)
+        | inr w ↦ (x, w.1, refl, refl)
+      ];
+    }
+  where
+    is_l : (i : ℕ) (x : Living) → slice_get live i ≡ Some x → q ≡ i → l ≡ x
+    is_l i x at e = let both : Some l ≡ Some x = sym here ∙ ap (λ n. slice_get live n) e ∙ at in cc
+
+pub among_on : (live new : List Living) (query : ℕ) (ends : List ConnEnd) → SameQueries live new → IsAmong live query ends → IsAmong new query ends
+among_on live new query ends same a =
+    let w = same.on a.at a.living a.here in
+    record { at = a.at; living = w.0; here = w.1.0; number = w.1.1.0 ∙ a.number; ends_are = w.1.1.1 ∙ a.ends_are }
+
+pub among_back : (live new : List Living) (query : ℕ) (ends : List ConnEnd) → SameQueries live new → IsAmong new query ends → IsAmong live query ends
+among_back live new query ends same a =
+    let w = same.back a.at a.living a.here in
+    record { at = a.at; living = w.0; here = w.1.0; number = sym w.1.1.0 ∙ a.number; ends_are = sym w.1.1.1 ∙ a.ends_are }
+
+-- ---- each end keeps its points
+
+abbrev pub AllStand : Settings → List Living → List Entry → Type 0
+AllStand settings live h = (i : ℕ) (l : Living) → slice_get live i ≡ Some l → LivingStands settings l h
+
+pub ends_keep : (s new : Hubbing) (h : List Entry) (e : Entry) → Shaped new → SamePlace s new → SameQueries s.live new.live → Stands s h → AllStand new.settings new.live (h ++ e ∷ []) → EndsKeep (place_in s) h e
+ends_keep s new h e shaped place same stands all =
+    record {
+      sending = λ end sends here.
+        let a = among_on s.live new.live end.key.query here.ends same ((stands.live end.key.query here.ends).0 here.live) in
+        let has : Contains a.living.ends end = subst (λ x. Contains x end) (sym a.ends_are) here.stands in
+        let o = sender_of a.living end (shaped.living a.at a.living a.here) has sends in
+        let keeps = (((all a.at a.living a.here).senders o.at o.sender o.here).sends).law h e [] refl in
+        let own : o.sender.sending.settings ≡ s.settings = all_at _ a.living.senders o.at o.sender (shaped.of_hub a.at a.living a.here).settings o.here ∙ place.settings in
+        subst (λ x. KeepsSending x end h e) own (subst (λ x. KeepsSending o.sender.sending.settings x h e) o.is keeps);
+      receiving = λ end receives here.
+        let a = among_on s.live new.live end.key.query here.ends same ((stands.live end.key.query here.ends).0 here.live) in
+        let has : Contains a.living.ends end = subst (λ x. Contains x end) (sym a.ends_are) here.stands in
+        let r = receiver_of a.living end (shaped.living a.at a.living a.here) has receives in
+        let keeps = ((all a.at a.living a.here).receivers r.at r.receiver r.here).law h e [] refl in
+        subst (λ x. Receives x end h e) place.settings (subst (λ x. Receives new.settings x h e) r.is keeps);
+    }
+
+-- ---- the whole stands
+
+pub top_same : (top : Option ℕ) (h now : List Entry) → left_of now ≡ left_of h → IsTop top h → IsTop top now
+top_same None h now left is = left ∙ is
+top_same (Some t) h now left is = record { bound = λ n c. is.bound n (subst (λ x. Contains x n) left c); here = subst (λ x. Contains x t) (sym left) is.here }
+
+ticks_push : (h : List Entry) (e : Entry) → ticks_of (h ++ e ∷ []) ≡ ticks_of h + ticks_by e.reply
+ticks_push [] e = omega arith
+ticks_push (x ∷ h) e = let w = ticks_push h e in omega (arith, w)
+
+pub clock_still : (h : List Entry) (e : Entry) → ticks_by e.reply ≡ 0 → clock_of (h ++ e ∷ []) ≡ clock_of h
+clock_still h e still = let w : ticks_of (h ++ e ∷ []) ≡ ticks_of h = (let p = ticks_push h e in omega (arith, p, still)) in ap (λ n. min last_tick n) w
+
+-- what a hub has with one more entry that begins and leaves no query
+pub record Adds (s new : Hubbing) (h : List Entry) (e : Entry) : Type 0 where
+  pub place : SamePlace s new
+  pub shaped : Shaped new
+  pub same : SameQueries s.live new.live
+  pub stand : AllStand new.settings new.live (h ++ e ∷ [])
+  pub top : new.top ≡ s.top
+  pub clock : clock_of (h ++ e ∷ []) ≡ new.now
+  pub lives : LivesOn h e
+  pub about : IsAbout (place_in s) h e
+  pub allowed : e.reply ≢ Memory → IsAllowed (place_in s) h e.ask
+  pub formed : (d : Datagram) → Contains (emits e) d → IsFormed (place_in s) d
+  pub takes : (query motion : ℕ) → e.ask ≡ Take query motion → AnswersTakeAny query motion h e.reply
+
+pub adds : (s new : Hubbing) (h : List Entry) (e : Entry) → Stands s h → Adds s new h e → Stands new (h ++ e ∷ [])
+adds s new h e stands a =
+    let keeps = ends_keep s new h e a.shaped a.place a.same stands a.stand in
+    let goes = goes_on (place_in s) h e a.about (record { law = stands.goes.law; keeps = keeps; allowed = a.allowed; formed = a.formed }) a.takes stands.goes.emission stands.goes.ahead in
+    record {
+      goes = subst (λ p. Goes p (h ++ e ∷ [])) (sym (same_place s new a.place)) goes;
+      clock = a.clock;
+      top = subst (λ t. IsTop t (h ++ e ∷ [])) (sym a.top) (top_same s.top h (h ++ e ∷ []) a.lives.left stands.top);
+      live = λ query ends. (
+        λ live. among_on s.live new.live query ends a.same ((stands.live query ends).0 ((a.lives.live query ends).0 live)),
+        λ among. (a.lives.live query ends).1 ((stands.live query ends).1 (among_back s.live new.live query ends a.same among)));
+      each = a.stand;
+    }
+
+-- ---- an entry about one end
+
+-- the ask neither begins nor leaves a query
+begins_none : (place : Place) (c : ConnKey) (side : Bool) (e : Entry) → AsksOf place c side e → (query : ℕ) (ends : List ConnEnd) → e.ask ≡ Begin query ends → was_begun e.reply ≡ true → ⊥
+begins_none place c side e (OfPut is chunk asked) query ends h b = let bad : Put c chunk ≡ Begin query ends = sym asked ∙ h in cc
+begins_none place c side e (OfFinish is asked) query ends h b = let bad : Finish c ≡ Begin query ends = sym asked ∙ h in cc
+begins_none place c side e (OfTakeFrom is asked) query ends h b = let bad : TakeFrom c ≡ Begin query ends = sym asked ∙ h in cc
+begins_none place c side e (OfHalt is asked) query ends h b = let bad : Halt c ≡ Begin query ends = sym asked ∙ h in cc
+begins_none place c side e (OfTake is session to parcel ds asked replied from) query ends h b = let bad : Take c.query c.motion ≡ Begin query ends = sym asked ∙ h in cc
+begins_none place c side e (OfArrive d asked packet directed) query ends h b = let bad : Arrive d ≡ Begin query ends = sym asked ∙ h in cc
+
+leaves_none : (place : Place) (c : ConnKey) (side : Bool) (e : Entry) → AsksOf place c side e → leaves e ≡ []
+leaves_none place c side e (OfPut is chunk asked) = ap (λ a. left_by a e.reply) asked
+leaves_none place c side e (OfFinish is asked) = ap (λ a. left_by a e.reply) asked
+leaves_none place c side e (OfTakeFrom is asked) = ap (λ a. left_by a e.reply) asked
+leaves_none place c side e (OfHalt is asked) = ap (λ a. left_by a e.reply) asked
+leaves_none place c side e (OfTake is session to parcel ds asked replied from) = ap (λ a. left_by a e.reply) asked
+leaves_none place c side e (OfArrive d asked packet directed) = ap (λ a. left_by a e.reply) asked
+
+-- the end of a connection is here, and one of this place
+pub has_end : (s : Hubbing) (h : List Entry) (q : ℕ) (l : Living) (end : ConnEnd) → Shaped s → Stands s h → slice_get s.live q ≡ Some l → Contains l.ends end → HasEnd (place_in s) end.key end.sending h
+has_end s h q l end shaped stands here has =
+    let number = number_of s q l end shaped here has in
+    let live = (stands.live end.key.query l.ends).1 (record { at = q; living = l; here = here; number = number; ends_are = refl }) in
+    let at = contains_at l.ends end has in
+    record {
+      end = end;
+      here = record { ends = l.ends; live = live; stands = has };
+      key = refl;
+      side_is = refl;
+      ours = all_at _ l.ends at.0 end (shaped.of_hub q l here).ours at.1;
+    }
+
+-- one query is another now, with its number and its ends, and stands with such an entry
+pub record QueryMoves (s : Hubbing) (h : List Entry) (e : Entry) (q : ℕ) (l m : Living) : Type 0 where
+  pub here : slice_get s.live q ≡ Some l
+  pub number : m.number ≡ l.number
+  pub ends : m.ends ≡ l.ends
+  pub living : IsLiving m
+  pub of_hub : IsOfHub (place_in s) s.now m
+  pub stands : LivingStands s.settings m (h ++ e ∷ [])
+
+abbrev pub with_query : Hubbing → ℕ → Living → Hubbing
+with_query s q m = record s { live = set s.live q m }
+
+-- the hub with it has its shape still
+pub shaped_with : (s : Hubbing) (q : ℕ) (l m : Living) → Shaped s → slice_get s.live q ≡ Some l → m.number ≡ l.number → IsLiving m → IsOfHub (place_in s) s.now m → Shaped (with_query s q m)
+shaped_with s q l m shaped here number living of_hub =
+    record {
+      living = λ i x at. elim (set_cases s.live q i m x at) [ inl w ↦ subst IsLiving (sym w.1) living | inr w ↦ shaped.living i x w.1 ];
+      of_hub = λ i x at. elim (set_cases s.live q i m x at) [ inl w ↦ subst (IsOfHub (place_in s) s.now) (sym w.1) of_hub | inr w ↦ shaped.of_hub i x w.1 ];
+      apart = λ i j a b ai bj same. elim (set_cases s.live q i m a ai) [
+        | inl u ↦ elim (set_cases s.live q j m b bj) [
+          | inl v ↦ sym u.0 ∙ v.0
+          | inr v ↦ sym u.0 ∙ shaped.apart q j l b here v.1 (sym number ∙ ap (λ (y : Living). y.number) (sym u.1) ∙ same)
+        ]
+        | inr u ↦ elim (set_cases s.live q j m b bj) [
+          | inl v ↦ shaped.apart i q a l u.1 here (same ∙ ap (λ (y : Living). y.number) v.1 ∙ number) ∙ v.0
+          | inr v ↦ shaped.apart i j a b u.1 v.1 same
+        ]
+      ];
+    }
+
+-- a query of another number stands on with an entry about an end of this one
+other_stands : (s : Hubbing) (h : List Entry) (e : Entry) (c : ConnKey) (side : Bool) (i : ℕ) (x : Living) → Shaped s → Stands s h → slice_get s.live i ≡ Some x → x.number ≢ c.query → Concerns (place_in s) c side e
+    → ((motion : ℕ) (from : ℤ) → IsServed x.number motion e from → ⊥) → LivingStands s.settings x (h ++ e ∷ [])
+other_stands s h e c side i x shaped stands here apart about unserved =
+    let was = stands.each i x here in
+    record {
+      senders = λ k o at.
+        let end = end_of_sender x k o (shaped.living i x here) at in
+        let other = λ same. λ (b : side ≡ true). apart (number_of s i x o.sending.end shaped here end.has ∙ ap (λ (y : ConnKey). y.query) same) in
+        others_pass o h e ((concerned_passes (place_in s) c side h e o.sending.end about).0 other).silent (was.senders k o at);
+      receivers = λ k r at.
+        let end = end_of_receiver x k r (shaped.living i x here) at in
+        let place = contains_at x.ends r.end end.has in
+        let ours = all_at (IsOurs (place_in s)) x.ends place.0 r.end (shaped.of_hub i x here).ours place.1 in
+        let other = λ same. λ (b : side ≡ false). apart (number_of s i x r.end shaped here end.has ∙ ap (λ (y : ConnKey). y.query) same) in
+        stands_silent s.settings r h e ((concerned_passes (place_in s) c side h e r.end about).1 other ours.session (ours.receives_here end.side_is)) (was.receivers k r at);
+      served = λ k motion last m at. served_before x.number motion h e last (unserved motion) (was.served k motion last m at);
+    }
+
+-- a take that serves a sender is of its own query
+served_here : (place : Place) (c : ConnKey) (side : Bool) (e : Entry) (query motion : ℕ) (from : ℤ) → AsksOf place c side e → IsServed query motion e from → query ≡ c.query
+served_here place c side e query motion from (OfPut is chunk asked) served = let bad : Put c chunk ≡ Take query motion = sym asked ∙ served.ask in cc
+served_here place c side e query motion from (OfFinish is asked) served = let bad : Finish c ≡ Take query motion = sym asked ∙ served.ask in cc
+served_here place c side e query motion from (OfTakeFrom is asked) served = let bad : TakeFrom c ≡ Take query motion = sym asked ∙ served.ask in cc
+served_here place c side e query motion from (OfHalt is asked) served = let bad : Halt c ≡ Take query motion = sym asked ∙ served.ask in cc
+served_here place c side e query motion from (OfTake is session to parcel ds asked replied f) served = let both : Take query motion ≡ Take c.query c.motion = sym served.ask ∙ asked in cc
+served_here place c side e query motion from (OfArrive d asked packet directed) served = let bad : Arrive d ≡ Take query motion = sym asked ∙ served.ask in cc
+
+-- the hub stands on with an entry about an end of the query
+pub query_moved : (s : Hubbing) (h : List Entry) (e : Entry) (q : ℕ) (l m : Living) (end : ConnEnd) → Shaped s → Stands s h → QueryMoves s h e q l m → Contains l.ends end → Concerns (place_in s) end.key end.sending e
+    → (e.reply ≢ Memory → IsAllowed (place_in s) h e.ask) → ((d : Datagram) → Contains (emits e) d → IsFormed (place_in s) d) → ((query motion : ℕ) → e.ask ≡ Take query motion → AnswersTakeAny query motion h e.reply)
+    → Stands (with_query s q m) (h ++ e ∷ [])
+query_moved s h e q l m end shaped stands moves has about allowed formed takes =
+    let number = number_of s q l end shaped moves.here has in
+    adds s (with_query s q m) h e stands (record {
+      place = record { session = refl; at = refl; settings = refl };
+      shaped = shaped_with s q l m shaped moves.here moves.number moves.living moves.of_hub;
+      same = one_replaced s.live q l m moves.here moves.number moves.ends;
+      stand = λ i x at. elim (set_cases s.live q i m x at) [
+        | inl w ↦ subst (λ (y : Living). LivingStands s.settings y (h ++ e ∷ [])) (sym w.1) moves.stands
+        | inr w ↦ (
+          let apart : x.number ≢ end.key.query = λ same. w.0 (sym (shaped.apart i q x l w.1 moves.here (same ∙ sym number))) in
+          other_stands s h e end.key end.sending i x shaped stands w.1 apart about (λ motion from served. apart (served_here (place_in s) end.key end.sending e x.number motion from about.asks served)))
+      ];
+      top = refl;
+      clock = clock_still h e (still_then (place_in s) end.key end.sending e about) ∙ stands.clock;
+      lives = lives_on h e (begins_none (place_in s) end.key end.sending e about.asks) (leaves_none (place_in s) end.key end.sending e about.asks);
+      about = AboutEnd end.key end.sending about (has_end s h q l end shaped stands moves.here has);
+      allowed = allowed;
+      formed = formed;
+      takes = takes;
+    })
+
+-- ---- one connection of the query
+
+all_set : {A : Type 0} (P : A → Type 0) (xs : List A) (i : ℕ) (x : A) → AllByRecursion P xs → P x → AllByRecursion P (set xs i x)
+all_set P [] i x all here = all
+all_set P (y ∷ ys) zero x all here = (here, all.1)
+all_set P (y ∷ ys) (suc i) x all here = (all.0, all_set P ys i x all.1 here)
+
+map_set : {A B : Type 0} (f : A → B) (xs : List A) (i : ℕ) (x y : A) → slice_get xs i ≡ Some x → f y ≡ f x → map f (set xs i y) ≡ map f xs
+map_set f [] i x y h same = refl
+map_set f (z ∷ zs) zero x y h same = let is : z ≡ x = cc in ap (λ a. a ∷ map f zs) (same ∙ ap f (sym is))
+map_set f (z ∷ zs) (suc i) x y h same = ap (λ as. f z ∷ as) (map_set f zs i x y h same)
+
+abbrev pub with_sender : Living → ℕ → OutgoingState → Living
+with_sender l i o = record l { senders = set l.senders i o }
+
+abbrev pub with_receiver : Living → ℕ → Receiving → Living
+with_receiver l i r = record l { receivers = set l.receivers i r }
+
+-- a sender with its end, its settings and its tick keeps what is always true of its query
+pub sender_keeps : (place : Place) (now : ℕ) (l : Living) (i : ℕ) (old new : OutgoingState) → IsLiving l → IsOfHub place now l → slice_get l.senders i ≡ Some old → SameEnd old new → new.now ≡ old.now
+    → IsLiving (with_sender l i new) × IsOfHub place now (with_sender l i new)
+sender_keeps place now l i old new living of_hub here same now_is =
+    (record { senders = map_set (λ (o : OutgoingState). o.sending.end) l.senders i old new here same.end ∙ living.senders; receivers = living.receivers; served = living.served },
+    record {
+      ends = of_hub.ends;
+      ours = of_hub.ours;
+      settings = all_set _ l.senders i new of_hub.settings (same.settings ∙ all_at _ l.senders i old of_hub.settings here);
+      now_is = all_set _ l.senders i new of_hub.now_is (now_is ∙ all_at _ l.senders i old of_hub.now_is here);
+    })
+
+pub receiver_keeps : (place : Place) (now : ℕ) (l : Living) (i : ℕ) (old new : Receiving) → IsLiving l → IsOfHub place now l → slice_get l.receivers i ≡ Some old → new.end ≡ old.end
+    → IsLiving (with_receiver l i new) × IsOfHub place now (with_receiver l i new)
+receiver_keeps place now l i old new living of_hub here same =
+    (record { senders = living.senders; receivers = map_set (λ (r : Receiving). r.end) l.receivers i old new here same ∙ living.receivers; served = living.served },
+    record { ends = of_hub.ends; ours = of_hub.ours; settings = of_hub.settings; now_is = of_hub.now_is })
+
+-- no sender is served by what a sending end is asked
+unserved : (place : Place) (c : ConnKey) (e : Entry) → AsksOf place c true e → (query motion : ℕ) (from : ℤ) → IsServed query motion e from → ⊥
+unserved place c e (OfPut is chunk asked) query motion from served = let bad : Put c chunk ≡ Take query motion = sym asked ∙ served.ask in cc
+unserved place c e (OfFinish is asked) query motion from served = let bad : Finish c ≡ Take query motion = sym asked ∙ served.ask in cc
+unserved place c e (OfTakeFrom is asked) query motion from served = let bad : TakeFrom c ≡ Take query motion = sym asked ∙ served.ask in cc
+unserved place c e (OfHalt is asked) query motion from served = let bad : Halt c ≡ Take query motion = sym asked ∙ served.ask in cc
+unserved place c e (OfTake is session to parcel ds asked replied f) query motion from served = let bad : true ≡ false = is in cc
+unserved place c e (OfArrive d asked packet directed) query motion from served = let bad : Arrive d ≡ Take query motion = sym asked ∙ served.ask in cc
+
+-- nor is a take from any
+takes_none : (place : Place) (c : ConnKey) (h : List Entry) (e : Entry) → AsksOf place c true e → (query motion : ℕ) → e.ask ≡ Take query motion → AnswersTakeAny query motion h e.reply
+takes_none place c h e (OfPut is chunk asked) query motion w = let bad : Put c chunk ≡ Take query motion = sym asked ∙ w in cc
+takes_none place c h e (OfFinish is asked) query motion w = let bad : Finish c ≡ Take query motion = sym asked ∙ w in cc
+takes_none place c h e (OfTakeFrom is asked) query motion w = let bad : TakeFrom c ≡ Take query motion = sym asked ∙ w in cc
+takes_none place c h e (OfHalt is asked) query motion w = let bad : Halt c ≡ Take query motion = sym asked ∙ w in cc
+takes_none place c h e (OfTake is session to parcel ds asked replied f) query motion w = let bad : true ≡ false = is in cc
+takes_none place c h e (OfArrive d asked packet directed) query motion w = let bad : Arrive d ≡ Take query motion = sym asked ∙ w in cc
+
+-- the hub stands on where one sender does
+pub sender_moved : (s : Hubbing) (h : List Entry) (e : Entry) (q i : ℕ) (l : Living) (old new : OutgoingState) → Shaped s → Stands s h → slice_get s.live q ≡ Some l → slice_get l.senders i ≡ Some old
+    → SameEnd old new → new.now ≡ old.now → SenderStands new (h ++ e ∷ []) → Concerns (place_in s) old.sending.end.key true e
+    → (e.reply ≢ Memory → IsAllowed (place_in s) h e.ask) → ((d : Datagram) → Contains (emits e) d → IsFormed (place_in s) d) → Stands (with_query s q (with_sender l i new)) (h ++ e ∷ [])
+sender_moved s h e q i l old new shaped stands here at same now moved about allowed formed =
+    let living = shaped.living q l here in
+    let keeps = sender_keeps (place_in s) s.now l i old new living (shaped.of_hub q l here) at same now in
+    let end = end_of_sender l i old living at in
+    let was = stands.each q l here in
+    let about' : Concerns (place_in s) old.sending.end.key old.sending.end.sending e = subst (λ b. Concerns (place_in s) old.sending.end.key b e) (sym end.side_is) about in
+    query_moved s h e q l (with_sender l i new) old.sending.end shaped stands (record {
+      here = here;
+      number = refl;
+      ends = refl;
+      living = keeps.0;
+      of_hub = keeps.1;
+      stands = record {
+        senders = λ k o found. elim (set_cases l.senders i k new o found) [
+          | inl w ↦ subst (λ x. SenderStands x (h ++ e ∷ [])) (sym w.1) moved
+          | inr w ↦ (
+            let other = λ key. λ (b : true ≡ true). w.0 (sym ((one_sender s q q k i l l o old shaped here here w.1 at key).place)) in
+            others_pass o h e ((concerned_passes (place_in s) old.sending.end.key true h e o.sending.end about).0 other).silent (was.senders k o w.1))
+        ];
+        receivers = λ k r found.
+          let its = end_of_receiver l k r living found in
+          let place = contains_at l.ends r.end its.has in
+          let ours = all_at (IsOurs (place_in s)) l.ends place.0 r.end (shaped.of_hub q l here).ours place.1 in
+          let other = λ key. λ (b : true ≡ false). let bad : true ≡ false = b in cc in
+          stands_silent s.settings r h e ((concerned_passes (place_in s) old.sending.end.key true h e r.end about).1 other ours.session (ours.receives_here its.side_is)) (was.receivers k r found);
+        served = λ k motion last m found. served_before l.number motion h e last (λ from served. unserved (place_in s) old.sending.end.key e about.asks l.number motion from served) (was.served k motion last m found);
+      };
+    }) end.has about' allowed formed (takes_none (place_in s) old.sending.end.key h e about.asks)
+
+-- The hub stands on where one receiver does, and where a take served it, that is noted.
+pub receiver_moved : (s : Hubbing) (h : List Entry) (e : Entry) (q i : ℕ) (l : Living) (old new : Receiving) (served : List (Option ℤ)) → Shaped s → Stands s h → slice_get s.live q ≡ Some l → slice_get l.receivers i ≡ Some old
+    → new.end ≡ old.end → length served ≡ length l.served → ReceiverStands s.settings new (h ++ e ∷ []) → Concerns (place_in s) old.end.key false e
+    → ((k motion : ℕ) (last : Option ℤ) → slice_get (motions_of l.ends) k ≡ Some motion → slice_get served k ≡ Some last → LastServed l.number motion (h ++ e ∷ []) last)
+    → (e.reply ≢ Memory → IsAllowed (place_in s) h e.ask) → ((d : Datagram) → Contains (emits e) d → IsFormed (place_in s) d) → ((query motion : ℕ) → e.ask ≡ Take query motion → AnswersTakeAny query motion h e.reply)
+    → Stands (with_query s q (record (with_receiver l i new) { served = served })) (h ++ e ∷ [])
+receiver_moved s h e q i l old new served shaped stands here at same count moved about serves allowed formed takes =
+    let living = shaped.living q l here in
+    let keeps = receiver_keeps (place_in s) s.now l i old new living (shaped.of_hub q l here) at same in
+    let end = end_of_receiver l i old living at in
+    let was = stands.each q l here in
+    let about' : Concerns (place_in s) old.end.key old.end.sending e = subst (λ b. Concerns (place_in s) old.end.key b e) (sym end.side_is) about in
+    query_moved s h e q l (record (with_receiver l i new) { served = served }) old.end shaped stands (record {
+      here = here;
+      number = refl;
+      ends = refl;
+      living = record { senders = keeps.0.senders; receivers = keeps.0.receivers; served = count ∙ living.served };
+      of_hub = record { ends = keeps.1.ends; ours = keeps.1.ours; settings = keeps.1.settings; now_is = keeps.1.now_is };
+      stands = record {
+        senders = λ k o found.
+          let other = λ key. λ (b : false ≡ true). let bad : false ≡ true = b in cc in
+          others_pass o h e ((concerned_passes (place_in s) old.end.key false h e o.sending.end about).0 other).silent (was.senders k o found);
+        receivers = λ k r found. elim (set_cases l.receivers i k new r found) [
+          | inl w ↦ subst (λ x. ReceiverStands s.settings x (h ++ e ∷ [])) (sym w.1) moved
+          | inr w ↦ (
+            let its = end_of_receiver l k r living w.1 in
+            let place = contains_at l.ends r.end its.has in
+            let ours = all_at (IsOurs (place_in s)) l.ends place.0 r.end (shaped.of_hub q l here).ours place.1 in
+            let other = λ key. λ (b : false ≡ false). w.0 (sym ((one_receiver s q q k i l l r old shaped here here w.1 at key).place)) in
+            stands_silent s.settings r h e ((concerned_passes (place_in s) old.end.key false h e r.end about).1 other ours.session (ours.receives_here its.side_is)) (was.receivers k r w.1))
+        ];
+        served = serves;
+      };
+    }) end.has about' allowed formed takes
+
+-- ---- an entry about no end
+
+-- where nothing is begun or left, the hub stands on as it is
+pub nought_stands : (s : Hubbing) (h : List Entry) (e : Entry) → Shaped s → Stands s h → IsNought (place_in s) h e → BeginsNone e → leaves e ≡ [] → (e.reply ≢ Memory → IsAllowed (place_in s) h e.ask)
+    → ((d : Datagram) → Contains (emits e) d → IsFormed (place_in s) d) → Stands s (h ++ e ∷ [])
+nought_stands s h e shaped stands about begins left allowed formed =
+    adds s s h e stands (record {
+      place = record { session = refl; at = refl; settings = refl };
+      shaped = shaped;
+      same = same_queries s.live;
+      stand = λ i l here. nought_living s h e i l shaped stands here about;
+      top = refl;
+      clock = clock_still h e (quiet_still (place_in s) h e about) ∙ stands.clock;
+      lives = lives_on h e begins left;
+      about = AboutNone about;
+      allowed = allowed;
+      formed = formed;
+      takes = nought_takes (place_in s) h e about;
+    })
