@@ -1,6 +1,7 @@
 -- A hub stands on with an entry about one end, where that end's connection does.
-use Rattle.std.proofs.Common.{◌≡◌, ◌≢◌, ◌↔◌, ℕ, zero, suc, ◌+◌, ℤ, List, [], ◌∷◌, ◌++◌, set, map, Bool, true, false, ◌==◌, Option, Some, None, Result, Ok, refl, ap, sym, ◌∙◌, subst, arith, inl, inr, ◌⊎◌, slice_get, min}
+use Rattle.std.proofs.Common.{◌≡◌, ◌≢◌, ◌↔◌, ℕ, zero, suc, ◌+◌, ℤ, List, [], ◌∷◌, ◌++◌, set, map, Bool, true, false, ◌==◌, Option, Some, None, Result, Ok, refl, ap, sym, ◌∙◌, subst, arith, inl, inr, ◌⊎◌, slice_get, min, cond, ◌&&◌, length}
 use Rattle.std.specs.List.{AllByRecursion, Contains}
+use Rattle.std.proofs.lemmas.Bool.Decides.{Decides-int_eq}
 use Rattle.ic_base.specs.declared.keys.ConnKey.{ConnKey}
 use Rattle.ic_base.specs.declared.keys.ConnEnd.{ConnEnd}
 use Rattle.ic_base.specs.declared.settings.Settings.{Settings}
@@ -9,11 +10,12 @@ use Rattle.ic_base.specs.declared.datagram.Parcel.{Parcel}
 use Rattle.ic_law.specs.declared.history.HubAsk.TheVariants.{Begin, Put, Finish, Take, TakeFrom, Halt, Arrive, Leave}
 use Rattle.ic_law.specs.declared.history.HubReply.TheVariants.{Took, Memory}
 use Rattle.ic_law.specs.declared.history.Entry.{Entry}
-use Rattle.ic_law.specs.History.{emits, was_begun, leaves, left_by, left_of}
+use Rattle.ic_law.specs.History.{emits, was_begun, leaves, left_by, left_of, takes, parcel_for, parcels_from}
 use Rattle.ic_law.specs.Points.{Place, place_at, IsFormed, IsLive, IsHere}
 use Rattle.ic_law.specs.Asking.{IsAllowed}
 use Rattle.ic_law.specs.Arriving.{IsServed, LastServed, IsGreatestLeft, AnswersTakeAny}
 use Rattle.ic_law.specs.Emission.{last_tick, ticks_by, ticks_of, clock_of}
+use Rattle.ic_law.specs.Hub.{HubPoint}
 use Rattle.ic_law.specs.Receiving.{Receives}
 use Rattle.ic_places.specs.Ends.{motions_of}
 use Rattle.ic_receiver.specs.Receiving.{Receiving}
@@ -23,12 +25,16 @@ use Rattle.ic_sender.specs.Standing.{KeepsSending}
 use Rattle.ic_outgoing.specs.Outgoing.{OutgoingState, SameEnd}
 use Rattle.ic_outgoing.specs.Standing.{Stands as SenderStands}
 use Rattle.ic_outgoing.proofs.Steps.{others_pass}
-use Rattle.ic_ends.specs.Entries.{IsOurs, HasEnd, EndsKeep, AsksOf, OfPut, OfFinish, OfTakeFrom, OfHalt, OfTake, OfArrive, Concerns}
-use Rattle.ic_ends.specs.Living.{LivesOn}
-use Rattle.ic_ends.specs.Laws.{IsAbout, AboutEnd, Holds, Goes}
+use Rattle.ic_ends.specs.Entries.{IsOurs, HasEnd, EndsKeep, AsksOf, OfPut, OfFinish, OfTakeFrom, OfHalt, OfTake, OfArrive, Concerns, IsNought}
+use Rattle.ic_ends.specs.Living.{BeginsNone, LivesOn}
+use Rattle.ic_ends.specs.Laws.{IsAbout, AboutEnd, AboutNone, Holds, Goes}
 use Rattle.ic_ends.proofs.Concerned.{still_then, concerned_passes}
 use Rattle.ic_ends.proofs.Lives.{lives_on}
-use Rattle.ic_ends.proofs.Ahead.{goes_on}
+use Rattle.ic_ends.proofs.Ahead.{ahead_goes_on}
+use Rattle.ic_ends.proofs.Whole.{law_goes_on, emission_goes_on}
+use Rattle.ic_ends.proofs.ConcernedPoints.{concerned_point}
+use Rattle.ic_ends.proofs.Nought.{IsQuiet, quiet, nought_passes}
+use Rattle.ic_ends.proofs.NoughtPoints.{nought_point}
 use Rattle.ic_ends.proofs.Served.{served_before}
 use Rattle.ic_ends.proofs.Beside.{set_cases}
 use Rattle.ic_hub.specs.Hubbing.{Hubbing, Living, IsLiving, IsOfHub, place_in}
@@ -131,17 +137,20 @@ pub record Adds (s new : Hubbing) (h : List Entry) (e : Entry) : Type 0 where
   pub same : SameQueries s.live new.live
   pub stand : AllStand new.settings new.live (h ++ e ∷ [])
   pub top : new.top ≡ s.top
-  pub clock : clock_of (h ++ e ∷ []) ≡ new.now
+  pub clock : clock_of (h ++ e ∷ []) ≡ new.tick
   pub lives : LivesOn h e
   pub about : IsAbout (place_in s) h e
-  pub allowed : e.reply ≢ Memory → IsAllowed (place_in s) h e.ask
-  pub formed : (d : Datagram) → Contains (emits e) d → IsFormed (place_in s) d
-  pub takes : (query motion : ℕ) → e.ask ≡ Take query motion → AnswersTakeAny query motion h e.reply
+  pub point : EndsKeep (place_in s) h e → HubPoint (place_in s) h e
 
 pub adds : (s new : Hubbing) (h : List Entry) (e : Entry) → Stands s h → Adds s new h e → Stands new (h ++ e ∷ [])
 adds s new h e stands a =
     let keeps = ends_keep s new h e a.shaped a.place a.same stands a.stand in
-    let goes = goes_on (place_in s) h e a.about (record { law = stands.goes.law; keeps = keeps; allowed = a.allowed; formed = a.formed }) a.takes stands.goes.emission stands.goes.ahead in
+    let goes : Goes (place_in s) (h ++ e ∷ []) =
+        record {
+          law = law_goes_on (place_in s) h e stands.goes.law (a.point keeps);
+          emission = emission_goes_on (place_in s) h e stands.goes.emission keeps;
+          ahead = ahead_goes_on (place_in s) h e a.about stands.goes.ahead;
+        } in
     record {
       goes = subst (λ p. Goes p (h ++ e ∷ [])) (sym (same_place s new a.place)) goes;
       clock = a.clock;
@@ -191,18 +200,18 @@ pub record QueryMoves (s : Hubbing) (h : List Entry) (e : Entry) (q : ℕ) (l m 
   pub number : m.number ≡ l.number
   pub ends : m.ends ≡ l.ends
   pub living : IsLiving m
-  pub of_hub : IsOfHub (place_in s) s.now m
+  pub of_hub : IsOfHub (place_in s) s.tick m
   pub stands : LivingStands s.settings m (h ++ e ∷ [])
 
 abbrev pub with_query : Hubbing → ℕ → Living → Hubbing
 with_query s q m = record s { live = set s.live q m }
 
 -- the hub with it has its shape still
-pub shaped_with : (s : Hubbing) (q : ℕ) (l m : Living) → Shaped s → slice_get s.live q ≡ Some l → m.number ≡ l.number → IsLiving m → IsOfHub (place_in s) s.now m → Shaped (with_query s q m)
+pub shaped_with : (s : Hubbing) (q : ℕ) (l m : Living) → Shaped s → slice_get s.live q ≡ Some l → m.number ≡ l.number → IsLiving m → IsOfHub (place_in s) s.tick m → Shaped (with_query s q m)
 shaped_with s q l m shaped here number living of_hub =
     record {
       living = λ i x at. elim (set_cases s.live q i m x at) [ inl w ↦ subst IsLiving (sym w.1) living | inr w ↦ shaped.living i x w.1 ];
-      of_hub = λ i x at. elim (set_cases s.live q i m x at) [ inl w ↦ subst (IsOfHub (place_in s) s.now) (sym w.1) of_hub | inr w ↦ shaped.of_hub i x w.1 ];
+      of_hub = λ i x at. elim (set_cases s.live q i m x at) [ inl w ↦ subst (IsOfHub (place_in s) s.tick) (sym w.1) of_hub | inr w ↦ shaped.of_hub i x w.1 ];
       apart = λ i j a b ai bj same. elim (set_cases s.live q i m a ai) [
         | inl u ↦ elim (set_cases s.live q j m b bj) [
           | inl v ↦ sym u.0 ∙ v.0
@@ -263,9 +272,8 @@ query_moved s h e q l m end shaped stands moves has about allowed formed takes =
       clock = clock_still h e (still_then (place_in s) end.key end.sending e about) ∙ stands.clock;
       lives = lives_on h e (begins_none (place_in s) end.key end.sending e about.asks) (leaves_none (place_in s) end.key end.sending e about.asks);
       about = AboutEnd end.key end.sending about (has_end s h q l end shaped stands moves.here has);
-      allowed = allowed;
-      formed = formed;
-      takes = takes;
+      point = λ keeps. concerned_point (place_in s) end.key end.sending h e about (has_end s h q l end shaped stands moves.here has)
+          (record { law = stands.goes.law; keeps = keeps; allowed = allowed; formed = formed }) takes;
     })
 
 -- ---- one connection of the query
@@ -287,22 +295,22 @@ abbrev pub with_receiver : Living → ℕ → Receiving → Living
 with_receiver l i r = record l { receivers = set l.receivers i r }
 
 -- a sender with its end, its settings and its tick keeps what is always true of its query
-pub sender_keeps : (place : Place) (now : ℕ) (l : Living) (i : ℕ) (old new : OutgoingState) → IsLiving l → IsOfHub place now l → slice_get l.senders i ≡ Some old → SameEnd old new → new.now ≡ old.now
-    → IsLiving (with_sender l i new) × IsOfHub place now (with_sender l i new)
-sender_keeps place now l i old new living of_hub here same now_is =
+pub sender_keeps : (place : Place) (tick : ℕ) (l : Living) (i : ℕ) (old new : OutgoingState) → IsLiving l → IsOfHub place tick l → slice_get l.senders i ≡ Some old → SameEnd old new → new.tick ≡ old.tick
+    → IsLiving (with_sender l i new) × IsOfHub place tick (with_sender l i new)
+sender_keeps place tick l i old new living of_hub here same tick_is =
     (record { senders = map_set (λ (o : OutgoingState). o.sending.end) l.senders i old new here same.end ∙ living.senders; receivers = living.receivers; served = living.served },
     record {
       ends = of_hub.ends;
       ours = of_hub.ours;
       settings = all_set _ l.senders i new of_hub.settings (same.settings ∙ all_at _ l.senders i old of_hub.settings here);
-      now_is = all_set _ l.senders i new of_hub.now_is (now_is ∙ all_at _ l.senders i old of_hub.now_is here);
+      tick_is = all_set _ l.senders i new of_hub.tick_is (tick_is ∙ all_at _ l.senders i old of_hub.tick_is here);
     })
 
-pub receiver_keeps : (place : Place) (now : ℕ) (l : Living) (i : ℕ) (old new : Receiving) → IsLiving l → IsOfHub place now l → slice_get l.receivers i ≡ Some old → new.end ≡ old.end
-    → IsLiving (with_receiver l i new) × IsOfHub place now (with_receiver l i new)
-receiver_keeps place now l i old new living of_hub here same =
+pub receiver_keeps : (place : Place) (tick : ℕ) (l : Living) (i : ℕ) (old new : Receiving) → IsLiving l → IsOfHub place tick l → slice_get l.receivers i ≡ Some old → new.end ≡ old.end
+    → IsLiving (with_receiver l i new) × IsOfHub place tick (with_receiver l i new)
+receiver_keeps place tick l i old new living of_hub here same =
     (record { senders = living.senders; receivers = map_set (λ (r : Receiving). r.end) l.receivers i old new here same ∙ living.receivers; served = living.served },
-    record { ends = of_hub.ends; ours = of_hub.ours; settings = of_hub.settings; now_is = of_hub.now_is })
+    record { ends = of_hub.ends; ours = of_hub.ours; settings = of_hub.settings; tick_is = of_hub.tick_is })
 
 -- no sender is served by what a sending end is asked
 unserved : (place : Place) (c : ConnKey) (e : Entry) → AsksOf place c true e → (query motion : ℕ) (from : ℤ) → IsServed query motion e from → ⊥
@@ -324,11 +332,11 @@ takes_none place c h e (OfArrive d asked packet directed) query motion w = let b
 
 -- the hub stands on where one sender does
 pub sender_moved : (s : Hubbing) (h : List Entry) (e : Entry) (q i : ℕ) (l : Living) (old new : OutgoingState) → Shaped s → Stands s h → slice_get s.live q ≡ Some l → slice_get l.senders i ≡ Some old
-    → SameEnd old new → new.now ≡ old.now → SenderStands new (h ++ e ∷ []) → Concerns (place_in s) old.sending.end.key true e
+    → SameEnd old new → new.tick ≡ old.tick → SenderStands new (h ++ e ∷ []) → Concerns (place_in s) old.sending.end.key true e
     → (e.reply ≢ Memory → IsAllowed (place_in s) h e.ask) → ((d : Datagram) → Contains (emits e) d → IsFormed (place_in s) d) → Stands (with_query s q (with_sender l i new)) (h ++ e ∷ [])
-sender_moved s h e q i l old new shaped stands here at same now moved about allowed formed =
+sender_moved s h e q i l old new shaped stands here at same tick moved about allowed formed =
     let living = shaped.living q l here in
-    let keeps = sender_keeps (place_in s) s.now l i old new living (shaped.of_hub q l here) at same now in
+    let keeps = sender_keeps (place_in s) s.tick l i old new living (shaped.of_hub q l here) at same tick in
     let end = end_of_sender l i old living at in
     let was = stands.each q l here in
     let about' : Concerns (place_in s) old.sending.end.key old.sending.end.sending e = subst (λ b. Concerns (place_in s) old.sending.end.key b e) (sym end.side_is) about in
@@ -363,7 +371,7 @@ pub receiver_moved : (s : Hubbing) (h : List Entry) (e : Entry) (q i : ℕ) (l :
     → Stands (with_query s q (record (with_receiver l i new) { served = served })) (h ++ e ∷ [])
 receiver_moved s h e q i l old new served shaped stands here at same count moved about serves allowed formed takes =
     let living = shaped.living q l here in
-    let keeps = receiver_keeps (place_in s) s.now l i old new living (shaped.of_hub q l here) at same in
+    let keeps = receiver_keeps (place_in s) s.tick l i old new living (shaped.of_hub q l here) at same in
     let end = end_of_receiver l i old living at in
     let was = stands.each q l here in
     let about' : Concerns (place_in s) old.end.key old.end.sending e = subst (λ b. Concerns (place_in s) old.end.key b e) (sym end.side_is) about in
@@ -372,7 +380,7 @@ receiver_moved s h e q i l old new served shaped stands here at same count moved
       number = refl;
       ends = refl;
       living = record { senders = keeps.0.senders; receivers = keeps.0.receivers; served = count ∙ living.served };
-      of_hub = record { ends = keeps.1.ends; ours = keeps.1.ours; settings = keeps.1.settings; now_is = keeps.1.now_is };
+      of_hub = record { ends = keeps.1.ends; ours = keeps.1.ours; settings = keeps.1.settings; tick_is = keeps.1.tick_is };
       stands = record {
         senders = λ k o found.
           let other = λ key. λ (b : false ≡ true). let bad : false ≡ true = b in cc in
@@ -392,6 +400,39 @@ receiver_moved s h e q i l old new served shaped stands here at same count moved
 
 -- ---- an entry about no end
 
+-- a take that serves a sender takes a parcel of it
+takes_one : (e : Entry) (query motion : ℕ) (from : ℤ) → IsServed query motion e from → takes (record { session = 0; query = query; motion = motion; from = from; to = from }) e ≡ [] → ⊥
+takes_one e query motion from served none =
+    let c : ConnKey = record { session = 0; query = query; motion = motion; from = from; to = from } in
+    let is : takes c e ≡ parcel_for c (Take query motion) (Took (Ok (served.parcel, served.ds))) = ap (λ a. parcel_for c a e.reply) served.ask ∙ ap (λ r. parcel_for c (Take query motion) r) served.reply in
+    let one = ap (λ b. cond (b && (motion == motion)) (parcels_from from (served.parcel ∷ [])) []) (eqb-refl query)
+        ∙ ap (λ b. cond b (parcels_from from (served.parcel ∷ [])) []) (eqb-refl motion)
+        ∙ ap (λ b. cond b (served.parcel ∷ []) []) ((Decides-int_eq served.parcel.from from).1 (sym served.sender)) in
+    let bad : served.parcel ∷ [] ≡ [] = sym one ∙ sym is ∙ none in
+    cc
+
+-- each query stands on
+pub nought_living : (s : Hubbing) (h : List Entry) (e : Entry) (i : ℕ) (l : Living) → Shaped s → Stands s h → slice_get s.live i ≡ Some l → IsNought (place_in s) h e → LivingStands s.settings l (h ++ e ∷ [])
+nought_living s h e i l shaped stands here about =
+    let was = stands.each i l here in
+    let living = shaped.living i l here in
+    let ours : (end : ConnEnd) → Contains l.ends end → IsOurs (place_in s) end =
+        λ end has. let place = contains_at l.ends end has in all_at (IsOurs (place_in s)) l.ends place.0 end (shaped.of_hub i l here).ours place.1 in
+    record {
+      senders = λ k o at.
+        let its = end_of_sender l k o living at in
+        others_pass o h e ((nought_passes (place_in s) h e o.sending.end about (ours o.sending.end its.has)).0 its.side_is).silent (was.senders k o at);
+      receivers = λ k r at.
+        let its = end_of_receiver l k r living at in
+        stands_silent s.settings r h e ((nought_passes (place_in s) h e r.end about (ours r.end its.has)).1 its.side_is) (was.receivers k r at);
+      served = λ k motion last m at. served_before l.number motion h e last (λ from served. serves_none h e l.number motion from (quiet (place_in s) h e about) served) (was.served k motion last m at);
+    }
+  where
+    serves_none : (h : List Entry) (e : Entry) (query motion : ℕ) (from : ℤ) → IsQuiet h e → IsServed query motion e from → ⊥
+    serves_none h e query motion from is served =
+        let none = is.takes_none (record { session = 0; query = query; motion = motion; from = from; to = from }) in
+        absurd (takes_one e query motion from served none)
+
 -- where nothing is begun or left, the hub stands on as it is
 pub nought_stands : (s : Hubbing) (h : List Entry) (e : Entry) → Shaped s → Stands s h → IsNought (place_in s) h e → BeginsNone e → leaves e ≡ [] → (e.reply ≢ Memory → IsAllowed (place_in s) h e.ask)
     → ((d : Datagram) → Contains (emits e) d → IsFormed (place_in s) d) → Stands s (h ++ e ∷ [])
@@ -402,10 +443,8 @@ nought_stands s h e shaped stands about begins left allowed formed =
       same = same_queries s.live;
       stand = λ i l here. nought_living s h e i l shaped stands here about;
       top = refl;
-      clock = clock_still h e (quiet_still (place_in s) h e about) ∙ stands.clock;
+      clock = clock_still h e (quiet (place_in s) h e about).still ∙ stands.clock;
       lives = lives_on h e begins left;
       about = AboutNone about;
-      allowed = allowed;
-      formed = formed;
-      takes = nought_takes (place_in s) h e about;
+      point = λ keeps. nought_point (place_in s) h e about (record { law = stands.goes.law; keeps = keeps; allowed = allowed; formed = formed });
     })

@@ -42,7 +42,7 @@ contains_at xs x c = (c.0, slice_get-get_or xs c.0 x c.1.0 ∙ ap Some c.1.1)
 
 pub record Shaped (s : Hubbing) : Type 0 where
   pub living : (i : ℕ) (l : Living) → slice_get s.live i ≡ Some l → IsLiving l
-  pub of_hub : (i : ℕ) (l : Living) → slice_get s.live i ≡ Some l → IsOfHub (place_in s) s.now l
+  pub of_hub : (i : ℕ) (l : Living) → slice_get s.live i ≡ Some l → IsOfHub (place_in s) s.tick l
   pub apart : (i j : ℕ) (a b : Living) → slice_get s.live i ≡ Some a → slice_get s.live j ≡ Some b → a.number ≡ b.number → i ≡ j
 
 -- ---- connections of ends

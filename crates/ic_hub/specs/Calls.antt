@@ -67,5 +67,5 @@ pub record MovesSender (place : ℕ) (Is : ConnKey → Entry → Type 0) (l afte
   pub here : slice_get l.senders place ≡ Some old
   pub is : after ≡ record l { senders = slice_set l.senders place new }
   pub end : SameEnd old new
-  pub now : new.now ≡ old.now
+  pub tick : new.tick ≡ old.tick
   pub stands : StandsNext old new (Is old.sending.end.key)

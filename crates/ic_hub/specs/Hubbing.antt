@@ -31,8 +31,8 @@ pub record Hubbing : Type 0 where
   pub session : ℕ
   pub at : ℤ
   pub settings : Settings
-  -- the tick
-  pub now : ℕ
+  -- the tick at which it is
+  pub tick : ℕ
   -- how many datagrams were dropped
   pub dropped : ℕ
   -- the greatest query that has ended, if any has
@@ -42,7 +42,7 @@ pub record Hubbing : Type 0 where
 
 -- of which no query has begun
 abbrev pub fresh : ℕ → ℤ → Settings → Hubbing
-fresh session at settings = record { session = session; at = at; settings = settings; now = 0; dropped = 0; top = None; live = [] }
+fresh session at settings = record { session = session; at = at; settings = settings; tick = 0; dropped = 0; top = None; live = [] }
 
 -- where it is
 abbrev pub place_in : Hubbing → Place
@@ -57,11 +57,11 @@ pub record IsLiving (l : Living) : Type 0 where
   pub served : length l.served ≡ length (motions_of l.ends)
 
 -- the ends of a query are ends here, and its connections are of this hub's settings and at its tick
-pub record IsOfHub (place : Place) (now : ℕ) (l : Living) : Type 0 where
+pub record IsOfHub (place : Place) (tick : ℕ) (l : Living) : Type 0 where
   pub ends : AreEnds place l.number l.ends
   pub ours : AllByRecursion (IsOurs place) l.ends
   pub settings : AllByRecursion (λ (o : OutgoingState). o.sending.settings ≡ place.settings) l.senders
-  pub now_is : AllByRecursion (λ (o : OutgoingState). o.now ≡ now) l.senders
+  pub tick_is : AllByRecursion (λ (o : OutgoingState). o.tick ≡ tick) l.senders
 
 -- the keys of a live query, if it is one
 abbrev pub keys_in : List Living → ℕ → Option (List ConnKey)
@@ -82,5 +82,5 @@ pub record IsHub (s : Hubbing) (table : Table) : Type 0 where
   pub top : table.top ≡ s.top
   pub tabled : IsTabled table s.live
   pub ascend : Ascend s.live
-  pub each : AllByRecursion (IsOfHub (place_in s) s.now) s.live
+  pub each : AllByRecursion (IsOfHub (place_in s) s.tick) s.live
   pub checked : AreChecked s.settings

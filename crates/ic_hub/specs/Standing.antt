@@ -37,7 +37,7 @@ pub record IsAmong (live : List Living) (query : ℕ) (ends : List ConnEnd) : Ty
 -- A hub stands for a history that keeps the laws of hubs, and is what the history says of it.
 pub record Stands (s : Hubbing) (h : List Entry) : Type 0 where
   pub goes : Goes (place_in s) h
-  pub clock : clock_of h ≡ s.now
+  pub clock : clock_of h ≡ s.tick
   pub top : IsTop s.top h
   pub live : (query : ℕ) (ends : List ConnEnd) → IsLive query ends h ↔ IsAmong s.live query ends
   pub each : (i : ℕ) (l : Living) → slice_get s.live i ≡ Some l → LivingStands s.settings l h

@@ -21,12 +21,12 @@ fn senders(
     alloc: Global,
     ends: &[ConnEnd],
     settings: &Settings,
-    now: u64,
+    tick: u64,
 ) -> Result<Vec<Outgoing>, AllocError> {
     let mut senders = Vec::new(alloc);
     for end in ends {
         if end.sending {
-            senders.push(Outgoing::new(alloc, *end, settings, now)?)?;
+            senders.push(Outgoing::new(alloc, *end, settings, tick)?)?;
         }
     }
     Ok(senders)
@@ -63,17 +63,17 @@ impl Query {
         number: u32,
         ends: &[ConnEnd],
         settings: &Settings,
-        now: u64,
+        tick: u64,
     ) -> Result<Query, AllocError>
         requires checked { AreChecked settings.now }
-        ensures { IfOk result (λ l. IsBegun number ends.now settings.now now l) }
+        ensures { IfOk result (λ l. IsBegun number ends.now settings.now tick l) }
     {
         let places = Places::new(alloc, ends)?;
         let served = unserved(alloc, places.motions())?;
         Ok(Query {
             number,
             places,
-            senders: senders(alloc, ends, settings, now)?,
+            senders: senders(alloc, ends, settings, tick)?,
             receivers: receivers(alloc, ends, settings)?,
             served,
         })
@@ -90,7 +90,7 @@ impl Hub {
         ensures place { SamePlace self.old self.new }
         ensures stands { (h : List Entry) → Stands self.old h → Stands self.new (h ++ begin_entry query ends.now result ∷ []) }
     {
-        let Ok(begun) = Query::begin(alloc, query, ends, &self.settings, self.now) else {
+        let Ok(begun) = Query::begin(alloc, query, ends, &self.settings, self.tick) else {
             return Err(BeginNo::Memory);
         };
         let Ok(()) = self.live.reserve(1) else {

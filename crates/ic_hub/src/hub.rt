@@ -20,7 +20,7 @@ pub struct Hub {
     pub(crate) at: SegId,
     pub(crate) settings: Settings,
     /// The tick, from 0.
-    pub(crate) now: u64,
+    pub(crate) tick: u64,
     pub(crate) dropped: u64,
     /// The connections of the live queries, and which queries have ended.
     pub(crate) table: ConnTable,
@@ -37,7 +37,7 @@ impl Model for Hub {
       session = b.session;
       at = b.at;
       settings = b.settings;
-      now = b.now;
+      tick = b.tick;
       dropped = b.dropped;
       top = b.table.top;
       live = b.live.items;
@@ -47,7 +47,7 @@ impl Model for Hub {
       session = b.session;
       at = b.at;
       settings = b.settings;
-      now = b.now;
+      tick = b.tick;
       dropped = b.dropped;
       top = b.table.top;
       live = b.live.items;
@@ -70,7 +70,7 @@ impl Hub {
             session,
             at,
             settings,
-            now: 0,
+            tick: 0,
             dropped: 0,
             table: ConnTable::new(alloc, session)?,
             live: Vec::new(alloc),

@@ -107,7 +107,7 @@ impl Hub {
         for (query, numbers) in self.live.iter_mut().zip(plans) {
             query.ticked(numbers.as_slice());
         }
-        self.now = self.now.saturating_add(1).min(LAST);
+        self.tick = self.tick.saturating_add(1).min(LAST);
     }
 
     /// The clock goes on by one: gives the packets that are emitted again and the status queries that are due, by query,
