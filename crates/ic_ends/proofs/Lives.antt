@@ -1,21 +1,20 @@
 -- What one more entry does to who is live.
-use Rattle.std.proofs.Common.{◌≡◌, ◌≢◌, ℕ, List, [], ◌∷◌, ◌++◌, Bool, true, false, cond, Ok, Err, refl, ap, sym, ◌∙◌, subst, inl, inr, ◌⊎◌, ◌↔◌, append_assoc, append-nil}
-use Rattle.std.specs.List.{Contains, flat_map}
+use Rattle.std.proofs.Common.{◌≡◌, ◌≢◌, ℕ, List, [], ◌∷◌, ◌++◌, true, cond, Err, refl, ap, sym, ◌∙◌, subst, inl, inr, ◌⊎◌, append_assoc, append-nil}
+use Rattle.std.specs.List.{Contains}
 use Rattle.std.proofs.lemmas.List.Elements.{Contains-append_cases, Contains-append_left, Contains-append_right}
 use Rattle.ic_base.specs.declared.keys.ConnEnd.{ConnEnd}
 use Rattle.ic_base.specs.declared.keys.BeginNo.TheVariants.{Old, Twice}
-use Rattle.ic_law.specs.declared.history.HubAsk.{HubAsk}
-use Rattle.ic_law.specs.declared.history.HubAsk.TheVariants.{Begin, Put, Finish, Take, TakeFrom, Halt, Arrive, Tick, Clear, Leave}
+use Rattle.ic_law.specs.declared.history.HubAsk.TheVariants.{Begin, Leave}
 use Rattle.ic_law.specs.declared.history.HubReply.{HubReply}
 use Rattle.ic_law.specs.declared.history.HubReply.TheVariants.{Begun, Memory}
 use Rattle.ic_law.specs.declared.history.Entry.{Entry}
-use Rattle.ic_law.specs.History.{was_begun, was_left, left_by, leaves, left_of}
-use Rattle.ic_law.specs.Points.{Place, IsLive, IsHere}
+use Rattle.ic_law.specs.History.{was_begun, left_by, leaves, left_of}
+use Rattle.ic_law.specs.Points.{Place, IsLive}
 use Rattle.ic_law.specs.Arriving.{AnswersBegin, IsOldOne, IsTwice, IsNew}
-use Rattle.ic_law.specs.Hub.{HubPoint, HubLaw}
+use Rattle.ic_law.specs.Hub.{HubLaw}
 use Rattle.ic_law.proofs.Lists.{cut_at, inside, Contains-none, Contains-head, Contains-one, flat_map-append}
 use Rattle.ic_law.proofs.Readings.{left_of-push}
-use Rattle.ic_ends.specs.Living.{BeginsNone, LivesOn, LivesFrom, LivesUntil, OthersLiveOn, BegunIsLive, LeftIsNotLive, LiveOnce}
+use Rattle.ic_ends.specs.Living.{OthersLiveOn, BegunIsLive, LeftIsNotLive, LiveOnce}
 use Rattle.ic_ends.proofs.Telling.{entry_is}
 
 -- ---- one more entry
@@ -44,8 +43,10 @@ live_pull q ends h e w =
       | inl k ↦ inl (record { ask = ap (λ (y : Entry). y.ask) (sym k.2); begun = ap (λ (y : Entry). was_begun y.reply) (sym k.2) ∙ w.begun })
       | inr k ↦
           let both : (n : ℕ) → Contains (left_of k.0 ++ leaves e) n → Contains (left_of w.after) n = (λ n at. subst (λ l. Contains (left_of l) n) (sym k.1) (subst (λ l. Contains l n) (sym (left_of-push k.0 e)) at)) in
-          inr (record { before = w.before; reply = w.reply; after = k.0; all = k.2; begun = w.begun; stays = λ at. w.stays (both q (Contains-append_left (left_of k.0) (leaves e) q at)) },
-          λ at. w.stays (both q (Contains-append_right (left_of k.0) (leaves e) q at)))
+          inr (
+            record { before = w.before; reply = w.reply; after = k.0; all = k.2; begun = w.begun; stays = λ at. w.stays (both q (Contains-append_left (left_of k.0) (leaves e) q at)) },
+            λ at. w.stays (both q (Contains-append_right (left_of k.0) (leaves e) q at)),
+          )
     ]
 
 -- ---- the three kinds
@@ -83,11 +84,13 @@ lives_from query ends h e ask begun =
     let there : (q : ℕ) (others : List ConnEnd) → q ≡ query → others ≡ ends → IsLive q others now = (λ q others a b. subst (λ n. IsLive n others now) (sym a) (subst (λ l. IsLive query l now) (sym b) (live_now query ends h e ask begun))) in
     record {
       live = λ q others. (back q others, λ w. elim w [ inl s ↦ there q others s.0 s.1 | inr l ↦ live_push q others h e l (none q) ]);
-      here = λ end. (λ w. elim (back end.key.query w.ends w.live) [ inl s ↦ inl (s.0, subst (λ l. Contains l end) s.1 w.stands) | inr l ↦ inr (record { ends = w.ends; live = l; stands = w.stands }) ],
-          λ w. elim w [
-            | inl s ↦ record { ends = ends; live = there end.key.query ends s.0 refl; stands = s.1 }
-            | inr l ↦ record { ends = l.ends; live = live_push end.key.query l.ends h e l.live (none end.key.query); stands = l.stands }
-          ]);
+      here = λ end. (
+        λ w. elim (back end.key.query w.ends w.live) [ inl s ↦ inl (s.0, subst (λ l. Contains l end) s.1 w.stands) | inr l ↦ inr (record { ends = w.ends; live = l; stands = w.stands }) ],
+        λ w. elim w [
+          | inl s ↦ record { ends = ends; live = there end.key.query ends s.0 refl; stands = s.1 }
+          | inr l ↦ record { ends = l.ends; live = live_push end.key.query l.ends h e l.live (none end.key.query); stands = l.stands }
+        ],
+      );
       left = left_of-push h e ∙ ap (λ l. left_of h ++ l) none_left ∙ append-nil (left_of h);
     }
 
@@ -102,8 +105,10 @@ lives_until query h e ask was =
     ]) in
     record {
       live = λ q others. (back q others, λ w. live_push q others h e w.0 (apart q w.1));
-      here = λ end. (λ w. let b = back end.key.query w.ends w.live in (record { ends = w.ends; live = b.0; stands = w.stands }, b.1),
-          λ w. record { ends = w.0.ends; live = live_push end.key.query w.0.ends h e w.0.live (apart end.key.query w.1); stands = w.0.stands });
+      here = λ end. (
+        λ w. let b = back end.key.query w.ends w.live in (record { ends = w.ends; live = b.0; stands = w.stands }, b.1),
+        λ w. record { ends = w.0.ends; live = live_push end.key.query w.0.ends h e w.0.live (apart end.key.query w.1); stands = w.0.stands },
+      );
       left = left_of-push h e ∙ ap (λ l. left_of h ++ l) one;
     }
 
