@@ -137,20 +137,9 @@ pub soon : (now : ℕ) → now ≤ 1000 → now ≤ last_tick
 unfolding last_tick
 soon now le = omega (arith, le)
 
--- a cut
-pub lone_cut : (s : Sending) (q cut : Queue) (now most conn upto : ℕ) → IsLone s q now most → cut ≡ record q { held = without (is_upto conn upto) q.held } → IsLone s cut now most
-lone_cut s q cut now most conn upto l is = subst (λ (x : Queue). IsLone s x now most) (sym is) (record {
-  alone = alone_without s.conn s.sent (is_upto conn upto) q.held l.alone;
-  order = l.order;
-  total = let less = length-without (is_upto conn upto) q.held in omega (arith, less, l.total);
-  room = l.room;
-  now_is = record { from = l.now_is.from; upto = l.now_is.upto; last = l.now_is.last };
-  packet = l.packet;
-})
-
--- a question for what is due at a later tick
-pub lone_asked : (s : Sending) (q left : Queue) (now most later : ℕ) → later ≤ 1000 → IsLone s q now most → left ≡ record q { held = without (is_due later) q.held; asked = later } → IsLone s left later most
-lone_asked s q left now most later le l is = subst (λ (x : Queue). IsLone s x later most) (sym is) (record {
+-- the time passes
+pub lone_passes : (s : Sending) (q left : Queue) (now most later : ℕ) → later ≤ 1000 → IsLone s q now most → left ≡ record q { held = without (is_due later) q.held; asked = later } → IsLone s left later most
+lone_passes s q left now most later le l is = subst (λ (x : Queue). IsLone s x later most) (sym is) (record {
   alone = alone_without s.conn s.sent (is_due later) q.held l.alone;
   order = l.order;
   total = let less = length-without (is_due later) q.held in omega (arith, less, l.total);
@@ -159,7 +148,7 @@ lone_asked s q left now most later le l is = subst (λ (x : Queue). IsLone s x l
   packet = l.packet;
 })
 
--- what a question gives of a connection waits no more
+-- what was due of a connection waits no more
 pub not_held : (conn now : ℕ) (q : Queue) (numbers : List ℕ) → IsQueue q → numbers ≡ map (λ (d : Due). d.seq) (filter (λ (d : Due). d.conn == conn) (dues_of now q.held))
     → (n : ℕ) → Contains numbers n → IsHeld conn n (without (is_due now) q.held) → ⊥
 not_held conn now q numbers stands are n at =
@@ -208,17 +197,3 @@ upto_last a d (m ∷ numbers) n inc at =
 
 pub few_same : (numbers others : List ℕ) (sent upto : ℕ) → numbers ≡ others → sent ≡ upto → AreFew numbers sent → AreFew others upto
 few_same numbers others sent upto same last few = subst (λ (l : List ℕ). AreFew l upto) same (subst (AreFew numbers) last few)
-
-pub given_again : (s : Sending) (numbers : List ℕ) (ds : List Datagram) → Tries s numbers (Ok ds) → spent_of s numbers ≡ None
-given_again s numbers ds (Tries.Again none is) = none
-given_again s numbers ds (Tries.Spent n some is) = let bad : Ok ds ≡ Err _ = is in cc
-given_again s numbers ds (Tries.AgainWithout is) = let bad : Ok ds ≡ Err _ = is in cc
-
-pub given_query : (s : Sending) (now : ℕ) (ds : List Datagram) → Queries s now (Ok ds) → is_unanswered s.settings.retries now s.asked ≡ false
-given_query s now ds (Queries.Asks answered is) = answered
-given_query s now ds (Queries.Unanswered not is) = let bad : Ok ds ≡ Err _ = is in cc
-given_query s now ds (Queries.AsksWithout is) = let bad : Ok ds ≡ Err _ = is in cc
-
-pub due_now : (now due : ℕ) (asked : Option Asked) → option_map (λ (a : Asked). a.due) asked ≡ Some due → due ≤ now → query_due now asked ≡ true
-due_now now due None is le = let bad : None ≡ Some due = is in cc
-due_now now due (Some a) is le = let same : a.due ≡ due = cc in le-leb a.due now (omega (arith, same, le))

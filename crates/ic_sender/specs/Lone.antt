@@ -1,5 +1,5 @@
 -- A connection that is alone in its queue, as a caller with one connection has it.
-use Rattle.std.specs.Prelude.{◌≡◌, ℕ, ◌+◌, ◌-◌, ◌<◌, ◌≤◌, List, length, Contains}
+use Rattle.std.specs.Prelude.{◌≡◌, ℕ, ◌+◌, ◌-◌, ◌≤◌, List, length, Contains}
 use Rattle.ic_law.specs.Numbers.{IsIncreasingFrom}
 use Rattle.ic_expire.specs.Queue.{Queue}
 use Rattle.ic_sender.specs.Sending.{Sending}
@@ -16,7 +16,6 @@ pub record IsLone (s : Sending) (q : Queue) (now most : ℕ) : Type 0 where
 
 -- numbers that may be tried again: a few that increase, none behind the greatest one emitted
 pub record AreFew (numbers : List ℕ) (sent : ℕ) : Type 0 where
-  pub some : 0 < length numbers
   pub few : length numbers ≤ 4
   pub increase : IsIncreasingFrom 1 numbers
   pub emitted : (n : ℕ) → Contains numbers n → n ≤ sent

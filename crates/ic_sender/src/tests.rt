@@ -57,6 +57,24 @@ fn a_packet_is_tried_as_often_as_allowed(rt: HostRuntime) -> Result<(), Fail> {
 }
 
 #[test]
+fn a_query_is_asked_as_often_as_allowed(rt: HostRuntime) -> Result<(), Fail> {
+    let lone = Lone::new(rt.alloc(), 1, 2, Flow::Loss)?;
+    let story = [
+        (Put(1), "nothing"),
+        (Put(2), "Rows 1 0"),
+        (Finish, "nothing"),
+        (Ack(1, 0), "nothing"),
+        (Due(2), "nothing"),
+        (Query, "Query 1 0"),
+        (Due(5), "nothing"),
+        (Query, "nothing"),
+        (Due(6), "nothing"),
+        (Query, "Spent 1 1"),
+    ];
+    tells(&rt, rt.alloc(), lone, story.as_slice())
+}
+
+#[test]
 fn an_answer_sets_the_tries_back(rt: HostRuntime) -> Result<(), Fail> {
     let lone = Lone::new(rt.alloc(), 4, 4, Flow::Loss)?;
     let story = [

@@ -38,7 +38,7 @@ pub struct Lone {
     sender: Sender,
     expiry: Expiry,
     now: u64,
-    /// No more packets wait or are unsent.
+    /// At most so many packets wait or are unsent.
     most: u32,
 }
 
@@ -71,6 +71,7 @@ fn gather() -> Result<ConnEnd, Fail> {
     })
 }
 
+/// Its number in the queue.
 fn conn_of(sender: &Sender) -> u32
     ensures { result ≡ sender.now.conn }
 {
@@ -87,16 +88,13 @@ fn seqs_of(alloc: Global, dues: &[Due], conn: u32) -> Result<Vec<u32>, AllocErro
         .collect(alloc)
 }
 
-/// Whether there are any: a few at most, in order, and emitted.
-fn are_any(seqs: &[u32], sent: u32) -> Result<bool, Fail>
-    ensures { IfOk result (λ any. IsTrue any → AreFew seqs.now sent) }
+/// Whether these may be tried again: a few, in order, and emitted.
+fn are_few(seqs: &[u32], sent: u32) -> bool
+    ensures { IsTrue result → AreFew seqs.now sent }
 {
-    if seqs.is_empty() {
-        return Ok(false);
-    }
     match last_increasing(seqs) {
-        Some(last) if last <= sent && seqs.len() <= 4 => Ok(true),
-        _ => Err("no such dues".into()),
+        Some(last) => last <= sent && seqs.len() <= 4,
+        None => false,
     }
 }
 
@@ -219,28 +217,31 @@ impl Lone {
         Ok(Ok(Datagrams::new(alloc)))
     }
 
+    /// A tick's two calls for packets whose time is over.
     fn due(&mut self, alloc: Global, now: u64) -> Result<Told, Fail> {
         if self.most > 60 || now <= self.now || now > 1000 {
             return Err("no such tick".into());
         }
-        let conn = conn_of(&self.sender);
-        // No packet has number 0: this takes out nothing.
-        self.expiry.cut(conn, 0);
-        let dues = self.expiry.due(alloc, now)?;
-        self.now = now;
-        let seqs = seqs_of(alloc, dues.as_slice(), conn)?;
-        if !are_any(seqs.as_slice(), self.sender.sent())? {
-            return Ok(Ok(Datagrams::new(alloc)));
+        let dues = self.expiry.due_at(alloc, now)?;
+        let seqs = seqs_of(alloc, dues.as_slice(), conn_of(&self.sender))?;
+        if !are_few(seqs.as_slice(), self.sender.sent()) {
+            return Err("no such dues".into());
         }
         let datagrams = match self.sender.due_gives(alloc, seqs.as_slice()) {
             Ok(datagrams) => datagrams,
             Err(no) => return Ok(Err(no)),
         };
+        self.expiry.pass(now);
+        self.now = now;
+        if seqs.is_empty() {
+            return Ok(Ok(datagrams));
+        }
         self.sender.due_done(seqs.as_slice(), now, &mut self.expiry);
         self.most += 4;
         Ok(Ok(datagrams))
     }
 
+    /// A tick's two calls for the status query.
     fn query(&mut self, alloc: Global) -> Result<Told, Fail> {
         let datagrams = match self.sender.query_gives(alloc, self.now) {
             Ok(datagrams) => datagrams,
