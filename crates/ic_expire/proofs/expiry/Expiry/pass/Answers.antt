@@ -2,7 +2,7 @@ use Rattle.std.proofs.Common.{◌≡◌, ◌≤◌, drop, sym, subst, arith, ◌
 use Rattle.ic_expire.specs.Items.{is_due}
 use Rattle.ic_expire.specs.Queue.{Queue, IsQueue, without}
 use Rattle.ic_expire.proofs.Keeping.{queue_asked}
-use Rattle.ic_expire.proofs.expiry.Expiry.due.Goals as goal
+use Rattle.ic_expire.proofs.expiry.Expiry.pass.Goals as goal
 
 pub returns-clause-stands : goal.returns-clause-stands
 returns-clause-stands c =

@@ -1,0 +1,4 @@
+pub mod Telling
+pub mod Concerned
+pub mod Lives
+pub mod Nought
