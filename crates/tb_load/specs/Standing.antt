@@ -2,7 +2,6 @@
 use Rattle.std.specs.Prelude.{◌≡◌, ℕ, ◌<◌, ◌≤◌, pos, negsuc, List, [], slice_get, Some, ⊤, IsPermutation}
 use Rattle.std.specs.List.{AllByRecursion, range_with_len, flat_map}
 use Rattle.ic_row.specs.Hash.{segment_for}
-use Rattle.ic_row.specs.Spelling.{FitsLength}
 use Rattle.pl_tree.specs.declared.schema.Placing.{Placing}
 use Rattle.pl_tree.specs.declared.schema.Placing.TheVariants.{Keyed, Dealt, Everywhere}
 use Rattle.pl_read.specs.declared.table.Table.{Table}
@@ -73,9 +72,3 @@ IsNotAbove tables number = rows_at tables number (negsuc 0) ≡ []
 
 abbrev pub StandNowhereElse : Document → List Spread → Type 0
 StandNowhereElse document tables = OfEachTable document (λ number table. IsNotPast table.schema.place document tables number × IsNotAbove tables number)
-
--- ---- texts
-
--- no text of a table is too long to be spelled
-abbrev pub HasShortTexts : Document → Type 0
-HasShortTexts document = AllByRecursion (λ table. AllByRecursion (AllByRecursion FitsLength) table.rows) document.tables

@@ -1,9 +1,9 @@
 // A whole document.
 ghost use Rattle.std.specs.Prelude.{◌≡◌, map, length, IfOk};
 ghost use Rattle.pl_rows.specs.Fitting.{Fits};
-ghost use Rattle.pl_read.specs.Limits.{IsDocument};
+ghost use Rattle.pl_read.specs.Limits.{IsDocument, HasShortTexts};
 ghost use Rattle.tb_load.specs.Kept.{spread_of, loaded_of, schemas_of};
-ghost use Rattle.tb_load.specs.Standing.{StandWherePlaced, StandOnce, StandByKey, StandNowhereElse, HasShortTexts};
+ghost use Rattle.tb_load.specs.Standing.{StandWherePlaced, StandOnce, StandByKey, StandNowhereElse};
 
 use crate::apart::{by_key, in_turn};
 use ic_row::{Row, Rows};
@@ -65,7 +65,7 @@ pub fn load(alloc: Global, document: &Document) -> Result<Loaded, AllocError>
     ensures by_key { IfOk result (λ loaded. StandByKey document.now loaded) }
     // None at the dispatcher, and past the last segment none of a table whose rows stand apart.
     ensures nowhere { IfOk result (λ loaded. StandNowhereElse document.now loaded) }
-    // What `read_document` gives fits each plan that is judged with its tables and segments.
+    // What `read_document` gives, of bytes that 32 bits count, fits each plan judged with its tables and segments.
     ensures fits { IsDocument document.now → HasShortTexts document.now →
         IfOk result (λ loaded. Fits document.now.segments (schemas_of document.now) loaded) }
 {
