@@ -127,6 +127,36 @@ impl Expiry {
         remove_upto(&mut self.items, conn, upto);
     }
 
+    /// How many packets wait. Takes no memory.
+    pub fn len(&self) -> usize
+        ensures value { result ≡ length self.now.held }
+        ensures stands { IsQueue self.now }
+    {
+        self.items.len()
+    }
+
+    /// Looks for what is due by tick `now`: by due tick, then connection, then number. All of it waits on. Allocates
+    /// once, and not at all where nothing is due.
+    pub fn due_at(&self, alloc: Global, now: u64) -> Result<Dues, AllocError>
+        ensures ok { IfOk result (λ dues. dues ≡ dues_of now self.now.held) }
+        ensures stands { IsQueue self.now }
+    {
+        let items = self.items.as_slice();
+        let (front, _later) = items.split_at(count_due(items, now));
+        Ok(Dues::from_vec(packets(alloc, front)?))
+    }
+
+    /// The clock is at tick `now`, the last question's or a later one: what is due by then waits no more. Takes no memory.
+    pub fn pass(&mut self, now: u64)
+        requires { self.old.asked ≤ now }
+        ensures ok { self.new ≡ record self.old { held = without (is_due now) self.old.held; asked = now } }
+        ensures stands { IsQueue self.new }
+    {
+        let count = count_due(self.items.as_slice(), now);
+        remove_front(&mut self.items, count);
+        self.asked = now;
+    }
+
     /// Asks at tick `now`, the last question's or a later one, for what is due by then, and takes it out: by due tick,
     /// then connection, then number. Allocates once, and not at all where nothing is due.
     pub fn due(&mut self, alloc: Global, now: u64) -> Result<Dues, AllocError>
@@ -136,11 +166,8 @@ impl Expiry {
         ensures memory { OnErr result (self.new ≡ self.old) }
         ensures stands { IsQueue self.new }
     {
-        let count = count_due(self.items.as_slice(), now);
-        let (front, _later) = self.items.as_slice().split_at(count);
-        let dues = packets(alloc, front)?;
-        remove_front(&mut self.items, count);
-        self.asked = now;
-        Ok(Dues::from_vec(dues))
+        let dues = self.due_at(alloc, now)?;
+        self.pass(now);
+        Ok(dues)
     }
 }

@@ -95,3 +95,19 @@ fn a_packet_taken_out_may_wait_again_at_once(rt: HostRuntime) -> Result<(), Fail
     );
     Ok(())
 }
+
+#[test]
+fn a_look_takes_nothing_out(rt: HostRuntime) -> Result<(), Fail> {
+    let mut queue = Expiry::with_room(rt.alloc(), 2)?;
+    queue.put(0, 1, 4);
+    queue.put(0, 2, 5);
+    let seen = queue.due_at(rt.alloc(), 4)?;
+    assert_eq!(rt; seen.as_slice().len(), 1);
+    assert_eq!(rt; queue.len(), 2);
+    queue.pass(4);
+    assert_eq!(rt;
+        due_at(&mut queue, rt.alloc(), 5)?.as_slice(),
+        [(0, 2)].as_slice()
+    );
+    Ok(())
+}

@@ -1,20 +1,20 @@
-mod Lists
-mod Sent
-mod Carrying
-mod Emitting
-mod Passing
+pub mod Lists
+pub mod Sent
+pub mod Carrying
+pub mod Emitting
+pub mod Passing
 mod Going
 mod Putting
 mod Pairs
 mod Hearing
 mod Answering
-mod Dues
-mod Ticking
-mod Beginning
-mod Knowing
+pub mod Dues
+pub mod Ticking
+pub mod Beginning
+pub mod Knowing
 mod Writing
 mod Packets
-mod MayWaiting
+pub mod MayWaiting
 mod Ending
 mod WordLemmas
 mod LoneLemmas

@@ -157,8 +157,8 @@ impl Sender {
         expiry: &mut Expiry,
     ) -> Result<Datagrams, SendNo>
         requires now { IsNow now expiry.old }
-        requires alone { WaitsAlone self.old expiry.old }
-        requires room { LeavesRoom (unsent self.old) expiry.old }
+        requires alone { self.old.stopped ≡ false → WaitsAlone self.old expiry.old }
+        requires room { self.old.stopped ≡ false → LeavesRoom (unsent self.old) expiry.old }
         ensures hears { Hears self.old expiry.old now (IsStrayAck self.old seq extra) (acknowledging seq extra) result self.new expiry.new }
         ensures stands { StandsOn now self.old expiry.old.held self.new expiry.new.held (IsHearing self.old.end.key Ack seq extra [] result) }
     {
@@ -174,8 +174,8 @@ impl Sender {
         expiry: &mut Expiry,
     ) -> Result<Datagrams, SendNo>
         requires now { IsNow now expiry.old }
-        requires alone { WaitsAlone self.old expiry.old }
-        requires room { LeavesRoom (unsent self.old) expiry.old }
+        requires alone { self.old.stopped ≡ false → WaitsAlone self.old expiry.old }
+        requires room { self.old.stopped ≡ false → LeavesRoom (unsent self.old) expiry.old }
         ensures { Hears self.old expiry.old now (IsStrayAck self.old seq extra) (acknowledging seq extra) result self.new expiry.new }
     {
         if self.stopped {
@@ -206,8 +206,8 @@ impl Sender {
         expiry: &mut Expiry,
     ) -> Result<Datagrams, SendNo>
         requires now { IsNow now expiry.old }
-        requires alone { WaitsAlone self.old expiry.old }
-        requires room { LeavesRoom (unsent self.old) expiry.old }
+        requires alone { self.old.stopped ≡ false → WaitsAlone self.old expiry.old }
+        requires room { self.old.stopped ≡ false → LeavesRoom (unsent self.old) expiry.old }
         ensures hears { Hears self.old expiry.old now (IsStrayDuplicate self.old seq extra) (repeating seq extra) result self.new expiry.new }
         ensures stands { StandsOn now self.old expiry.old.held self.new expiry.new.held (IsHearing self.old.end.key Duplicate seq extra [] result) }
     {
@@ -223,8 +223,8 @@ impl Sender {
         expiry: &mut Expiry,
     ) -> Result<Datagrams, SendNo>
         requires now { IsNow now expiry.old }
-        requires alone { WaitsAlone self.old expiry.old }
-        requires room { LeavesRoom (unsent self.old) expiry.old }
+        requires alone { self.old.stopped ≡ false → WaitsAlone self.old expiry.old }
+        requires room { self.old.stopped ≡ false → LeavesRoom (unsent self.old) expiry.old }
         ensures { Hears self.old expiry.old now (IsStrayDuplicate self.old seq extra) (repeating seq extra) result self.new expiry.new }
     {
         if self.stopped {
@@ -254,8 +254,8 @@ impl Sender {
         expiry: &mut Expiry,
     ) -> Result<Datagrams, SendNo>
         requires now { IsNow now expiry.old }
-        requires alone { WaitsAlone self.old expiry.old }
-        requires room { LeavesRoom (unsent self.old) expiry.old }
+        requires alone { self.old.stopped ≡ false → WaitsAlone self.old expiry.old }
+        requires room { self.old.stopped ≡ false → LeavesRoom (unsent self.old) expiry.old }
         ensures hears { Hears self.old expiry.old now (IsStrayNak self.old seq) (unknown seq) result self.new expiry.new }
         ensures stands { (extra : ℕ) → StandsOn now self.old expiry.old.held self.new expiry.new.held (IsHearing self.old.end.key Nak seq extra [] result) }
     {
@@ -270,8 +270,8 @@ impl Sender {
         expiry: &mut Expiry,
     ) -> Result<Datagrams, SendNo>
         requires now { IsNow now expiry.old }
-        requires alone { WaitsAlone self.old expiry.old }
-        requires room { LeavesRoom (unsent self.old) expiry.old }
+        requires alone { self.old.stopped ≡ false → WaitsAlone self.old expiry.old }
+        requires room { self.old.stopped ≡ false → LeavesRoom (unsent self.old) expiry.old }
         ensures { Hears self.old expiry.old now (IsStrayNak self.old seq) (unknown seq) result self.new expiry.new }
     {
         if self.stopped {
@@ -320,8 +320,8 @@ impl Sender {
     ) -> Result<Datagrams, SendNo>
         requires allowed { AllowsBody Disorder (length missing.now) }
         requires now { IsNow now expiry.old }
-        requires alone { WaitsAlone self.old expiry.old }
-        requires room { LeavesRoom (unsent self.old) expiry.old }
+        requires alone { self.old.stopped ≡ false → WaitsAlone self.old expiry.old }
+        requires room { self.old.stopped ≡ false → LeavesRoom (unsent self.old) expiry.old }
         ensures hears { Hears self.old expiry.old now (IsStrayDisorder self.old seq extra missing.now) (missing_of seq missing.now) result self.new expiry.new }
         ensures stands { StandsOn now self.old expiry.old.held self.new expiry.new.held (IsHearing self.old.end.key Disorder seq extra missing.now result) }
     {
@@ -339,8 +339,8 @@ impl Sender {
     ) -> Result<Datagrams, SendNo>
         requires allowed { AllowsBody Disorder (length missing.now) }
         requires now { IsNow now expiry.old }
-        requires alone { WaitsAlone self.old expiry.old }
-        requires room { LeavesRoom (unsent self.old) expiry.old }
+        requires alone { self.old.stopped ≡ false → WaitsAlone self.old expiry.old }
+        requires room { self.old.stopped ≡ false → LeavesRoom (unsent self.old) expiry.old }
         ensures { Hears self.old expiry.old now (IsStrayDisorder self.old seq extra missing.now) (missing_of seq missing.now) result self.new expiry.new }
     {
         if self.stopped {

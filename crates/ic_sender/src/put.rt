@@ -262,8 +262,8 @@ impl Sender {
         requires least { 4 ≤ length chunk.now }
         requires most { length chunk.now + 68 ≤ self.old.settings.packet }
         requires now { IsNow now expiry.old }
-        requires alone { WaitsAlone self.old expiry.old }
-        requires room { LeavesRoom (unsealed self.old) expiry.old }
+        requires alone { self.old.stopped ≡ false → WaitsAlone self.old expiry.old }
+        requires room { self.old.stopped ≡ false → LeavesRoom (unsealed self.old) expiry.old }
         ensures puts { Puts self.old expiry.old now (NeedsPacket self.old chunk.now) (adding chunk.now self.old) result self.new expiry.new }
         ensures stands { StandsOn now self.old expiry.old.held self.new expiry.new.held (IsPutting self.old.end.key chunk.now result) }
     {
@@ -299,8 +299,8 @@ impl Sender {
     ) -> Result<Datagrams, SendNo>
         requires unfinished { self.old.finished ≡ false }
         requires now { IsNow now expiry.old }
-        requires alone { WaitsAlone self.old expiry.old }
-        requires room { LeavesRoom (unsealed self.old) expiry.old }
+        requires alone { self.old.stopped ≡ false → WaitsAlone self.old expiry.old }
+        requires room { self.old.stopped ≡ false → LeavesRoom (unsealed self.old) expiry.old }
         ensures puts { Puts self.old expiry.old now (Unit {0}) (ending self.old) result self.new expiry.new }
         ensures stands { StandsOn now self.old expiry.old.held self.new expiry.new.held (IsFinishing self.old.end.key result) }
     {

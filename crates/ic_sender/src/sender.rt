@@ -165,6 +165,14 @@ impl Sender {
         self.stopped || (self.finished && self.ring.unacked() == 0)
     }
 
+    /// How many packets are kept, emitted or not.
+    pub fn unacked(&self) -> u32
+        ensures value { result ≡ length self.now.kept }
+        ensures most { result ≤ self.now.settings.send_depth }
+    {
+        self.ring.unacked()
+    }
+
     /// The greatest number emitted, 0 where nothing was.
     pub fn sent(&self) -> u32
         ensures { result ≡ self.now.sent }

@@ -37,3 +37,9 @@ returns c =
     let same : answer c.saturating_sub.result c.as_slice-2.result.now ≡ missing_of c.args.seq c.args.missing.now = ap (λ r. answer r c.as_slice-2.result.now) run ∙ ap (answer (from_be_bytes w32 (take 4 c.args.missing.now) - 1)) lists in
     let gives = subst (λ a. Gives (hearing c.args.now a s) (without (is_upto s.conn (run_with a s)) q.held) c.args.now (datagrams_again c.args.now a s) c.in_ok-hear.field-0 c.hear.new.self q c.hear.new.expiry) same c.in_ok-hear.ensures.ok in
     Hears.Heard (sym (ap (λ (x : Sending). x.stopped) c.self.view_is) ∙ c.if-self.false) fine (ap Ok gives.datagrams) gives.state gives.waits
+
+pub hear-requires-clause-alone : goal.hear-requires-clause-alone
+hear-requires-clause-alone c = c.requires.alone (sym (ap (λ (x : Sending). x.stopped) c.self.view_is) ∙ c.if-self.false)
+
+pub hear-requires-clause-room : goal.hear-requires-clause-room
+hear-requires-clause-room c = c.requires.room (sym (ap (λ (x : Sending). x.stopped) c.self.view_is) ∙ c.if-self.false)

@@ -12,3 +12,9 @@ returns-then-self-clause-stands c =
 
 pub returns-clause-stands : goal.returns-clause-stands
 returns-clause-stands c = finish_stands c.args.self.now c.args.expiry.now c.args.now c.finish_running.result c.finish_running.new.self c.finish_running.new.expiry c.requires.unfinished c.finish_running.ensures
+
+pub finish_running-requires-clause-alone : goal.finish_running-requires-clause-alone
+finish_running-requires-clause-alone c = c.requires.alone (sym (ap (λ (x : Sending). x.stopped) c.self.view_is) ∙ c.if-self.false)
+
+pub finish_running-requires-clause-room : goal.finish_running-requires-clause-room
+finish_running-requires-clause-room c = c.requires.room (sym (ap (λ (x : Sending). x.stopped) c.self.view_is) ∙ c.if-self.false)

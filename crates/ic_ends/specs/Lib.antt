@@ -1,0 +1,5 @@
+pub mod Entries
+pub mod Living
+pub mod Laws
+pub mod Serving
+pub mod Formed
