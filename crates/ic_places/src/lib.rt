@@ -15,8 +15,11 @@ mod row;
 mod slots;
 
 pub use laws::{
-    ends_have_their_sides, keys_are_of_ends, motions_are_received, receivers_have_the_motion, sides_are_found,
-    slots_are_their_ends,
+    ends_have_their_sides, keys_are_of_ends, motions_are_received, receivers_have_the_motion,
+    sides_are_found, slots_are_their_ends,
 };
 pub use places::Places;
 pub use slots::{Sides, Slot};
+
+#[cfg(test)]
+mod tests;
