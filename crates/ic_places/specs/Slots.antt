@@ -30,11 +30,12 @@ abbrev pub IsWithin : List ConnEnd → Slot → Type 0
 IsWithin ends (Sender place) = place < length (sending_ends ends)
 IsWithin ends (Receiver place) = place < length (receiving_ends ends)
 
--- the place of a sending end, and of a receiving one
+-- the place, where it is a sending end's
 abbrev pub sender_in : Slot → Option ℕ
 sender_in (Sender place) = Some place
 sender_in (Receiver place) = None
 
+-- the place, where it is a receiving end's
 abbrev pub receiver_in : Slot → Option ℕ
 receiver_in (Sender place) = None
 receiver_in (Receiver place) = Some place

@@ -3,7 +3,7 @@
 //!
 //! A hub makes one [`Places`] when a query begins, of the ends in the order of `begin`, and keeps the ends that send and
 //! those that receive in two lists. It asks `sides` for each datagram, `motion` and `receivers` for each call that takes
-//! rows, and walks `order` for what all ends do. Nothing changes until the query is left.
+//! rows, and walks `order` for what all ends do. Nothing here changes while the query is live.
 //!
 //! Below: `ic_base` for keys and ends, the kit's `indexmap`. Above: the hub of a segment.
 #![tactic(auto)]
