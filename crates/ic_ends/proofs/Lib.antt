@@ -11,3 +11,4 @@ pub mod Ahead
 pub mod Forms
 pub mod Served
 pub mod Beside
+pub mod Spent

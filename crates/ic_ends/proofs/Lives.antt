@@ -1,7 +1,9 @@
 -- What one more entry does to who is live.
-use Rattle.std.proofs.Common.{◌≡◌, ◌≢◌, ℕ, List, [], ◌∷◌, ◌++◌, true, cond, Err, refl, ap, sym, ◌∙◌, subst, inl, inr, ◌⊎◌, append_assoc, append-nil}
+use Rattle.std.proofs.Common.{◌≡◌, ◌≢◌, ℕ, List, [], ◌∷◌, ◌++◌, true, cond, Err, refl, ap, sym, ◌∙◌, subst, inl, inr, ◌⊎◌, append_assoc, append-nil, ◌≤◌, max, arith, Bool, false, not}
 use Rattle.std.specs.List.{Contains}
+use Rattle.std.proofs.Math.Decide.{dec_le}
 use Rattle.std.proofs.lemmas.List.Elements.{Contains-append_cases, Contains-append_left, Contains-append_right}
+use Rattle.ic_base.specs.declared.keys.ConnKey.{ConnKey}
 use Rattle.ic_base.specs.declared.keys.ConnEnd.{ConnEnd}
 use Rattle.ic_base.specs.declared.keys.BeginNo.TheVariants.{Old, Twice}
 use Rattle.ic_law.specs.declared.history.HubAsk.TheVariants.{Begin, Leave}
@@ -9,12 +11,12 @@ use Rattle.ic_law.specs.declared.history.HubReply.{HubReply}
 use Rattle.ic_law.specs.declared.history.HubReply.TheVariants.{Begun, Memory}
 use Rattle.ic_law.specs.declared.history.Entry.{Entry}
 use Rattle.ic_law.specs.History.{was_begun, left_by, leaves, left_of}
-use Rattle.ic_law.specs.Points.{Place, IsLive}
+use Rattle.ic_law.specs.Points.{Place, IsDirected, IsLive, IsHere}
 use Rattle.ic_law.specs.Arriving.{AnswersBegin, IsOldOne, IsTwice, IsNew}
 use Rattle.ic_law.specs.Hub.{HubLaw}
 use Rattle.ic_law.proofs.Lists.{cut_at, inside, Contains-none, Contains-head, Contains-one, flat_map-append}
 use Rattle.ic_law.proofs.Readings.{left_of-push}
-use Rattle.ic_ends.specs.Living.{OthersLiveOn, BegunIsLive, LeftIsNotLive, LiveOnce}
+use Rattle.ic_ends.specs.Living.{OthersLiveOn, BegunIsLive, LeftIsNotLive, LiveOnce, AreThere, LiveAreThere, SideIsHere, OldUpto, LeftTops}
 use Rattle.ic_ends.proofs.Telling.{entry_is}
 
 -- ---- one more entry
@@ -161,3 +163,62 @@ live_once place h q a b law u w =
         let head : y ≡ record { ask = Begin q b; reply = w.reply } = cc in
         let rest : m ++ record { ask = Begin q a; reply = u.reply } ∷ u.after ≡ w.after = cc in
         absurd (not_behind place h q a b law u w m (front ∙ ap (λ x. w.before ++ x ∷ m) head) (sym rest))
+
+-- ---- the ends of a live query
+
+pub live_are_there : LiveAreThere
+live_are_there place h query ends law live = record {
+  are = (law live.before (record { ask = Begin query ends; reply = live.reply }) live.after live.all).allowed (λ memory. let bad : was_begun Memory ≡ true = ap was_begun (sym memory) ∙ live.begun in cc);
+  here = λ end same. (
+    λ w. subst (λ l. Contains l end) (live_once place h query w.ends ends law (subst (λ n. IsLive n w.ends h) same w.live) live) w.stands,
+    λ at. record { ends = ends; live = subst (λ n. IsLive n ends h) (sym same) live; stands = at },
+  );
+}
+
+pub side_is_here : SideIsHere
+side_is_here place h end d forth law here to directed = by end.sending forth refl directed
+  where
+    there : AreThere place end.key.query here.ends h
+    there = live_are_there place h end.key.query here.ends law here.live
+
+    -- the end on the other side
+    across : end.key.from ≡ end.key.to → (other : ConnEnd) × IsHere other h × (other.key ≡ end.key) × (other.sending ≡ not end.sending)
+    across itself = let w = there.are.both end here.stands itself in (w.0, (there.here w.0 (ap (λ (k : ConnKey). k.query) w.2)).1 w.1, w.2, w.3)
+
+    by : (sends b : Bool) → end.sending ≡ sends → IsDirected b d end.key → (other : ConnEnd) × IsHere other h × (other.key ≡ end.key) × (other.sending ≡ not b)
+    by true false is way = (end, here, refl, is)
+    by false true is way = (end, here, refl, is)
+    by true true is way = let w = across ((there.are.each end here.stands).sends_here is ∙ sym to ∙ way.1) in (w.0, w.1, w.2, w.3 ∙ ap not is)
+    by false false is way = let w = across (sym way.1 ∙ to ∙ sym ((there.are.each end here.stands).receives_here is)) in (w.0, w.1, w.2, w.3 ∙ ap not is)
+
+-- ---- the greatest query that was left
+
+pub old_upto : OldUpto
+old_upto h top query greatest = (λ old. let low = greatest.bound old.0 old.1 in omega (arith, old.2, low), λ low. (top, greatest.here, low))
+
+pub left_tops : LeftTops
+left_tops query h now left = record {
+  first = λ none. let all : left_of now ≡ query ∷ [] = left ∙ ap (λ l. l ++ query ∷ []) none in record {
+    bound = λ n at. let same = Contains-one query n (subst (λ l. Contains l n) all at) in omega (arith, same);
+    here = subst (λ l. Contains l query) (sym all) (Contains-head query []);
+  };
+  greater = λ top old. record {
+    bound = λ n at. elim (Contains-append_cases (left_of h) (query ∷ []) n (subst (λ l. Contains l n) left at)) [
+      | inl there ↦ let low = old.bound n there in omega (arith, low)
+      | inr here ↦ let same = Contains-one query n here in omega (arith, same)
+    ];
+    here = elim (either top query) [
+      | inl low ↦ subst (λ l. Contains l (max top query)) (sym left) (subst (λ n. Contains (left_of h ++ query ∷ []) n) (sym (upto top query low)) (Contains-append_right (left_of h) (query ∷ []) query (Contains-head query [])))
+      | inr low ↦ subst (λ l. Contains l (max top query)) (sym left) (subst (λ n. Contains (left_of h ++ query ∷ []) n) (sym (above top query low)) (Contains-append_left (left_of h) (query ∷ []) top old.here))
+    ];
+  };
+}
+  where
+    upto : (a b : ℕ) → a ≤ b → max a b ≡ b
+    upto a b low = omega (arith, low)
+
+    above : (a b : ℕ) → b ≤ a → max a b ≡ a
+    above a b low = omega (arith, low)
+
+    either : (a b : ℕ) → (a ≤ b) ⊎ (b ≤ a)
+    either a b = elim (dec_le a b) [ yes low ↦ inl low | no high ↦ inr (omega (arith, high)) ]

@@ -3,3 +3,4 @@ pub mod Living
 pub mod Laws
 pub mod Serving
 pub mod Formed
+pub mod Clocks

@@ -1,7 +1,8 @@
 // Laws of the ends of one segment, each carried by a function that has nothing to run.
+ghost use Rattle.ic_ends.specs.Clocks.{ClockMoves, NothingSpent, PacketSpentFirst, QuerySpentFirst};
 ghost use Rattle.ic_ends.specs.Serving.{ServedBefore, ServedNow, ServedNobody};
 ghost use Rattle.ic_ends.specs.Formed.{AnswersAreFormed, TurnedIsFormed};
-ghost use Rattle.ic_ends.specs.Living.{OthersLiveOn, BegunIsLive, LeftIsNotLive, LiveOnce};
+ghost use Rattle.ic_ends.specs.Living.{LiveAreThere, SideIsHere, OldUpto, LeftTops, OthersLiveOn, BegunIsLive, LeftIsNotLive, LiveOnce};
 ghost use Rattle.ic_ends.specs.Laws.{GoesFirst, GoesOn, ConcernedPasses, NoughtPasses, TickPasses, ConcernedPoint, NoughtPoint, TickPoint, LawGoesOn, EmissionGoesOn, StaysAhead, AheadGoesOn};
 
 /// An entry about one end leaves every other end standing.
@@ -107,4 +108,44 @@ pub fn answers_formed()
 /// So has what is turned back to a datagram of no connection that isn't foreign.
 pub fn turned_formed()
     ensures { TurnedIsFormed }
+{}
+
+/// The ends of a live query are such as may begin here, and of their query they alone are here.
+pub fn live_are_there()
+    ensures { LiveAreThere }
+{}
+
+/// A query is old exactly up to the greatest that was left.
+pub fn old_upto()
+    ensures { OldUpto }
+{}
+
+/// With one more query left, the greatest that was left is the greater.
+pub fn left_tops()
+    ensures { LeftTops }
+{}
+
+/// The clock stands still with an entry that isn't a tick, and goes on with a tick.
+pub fn clock_moves()
+    ensures { ClockMoves }
+{}
+
+/// Where no packet and no status query of these ends is given up, nothing is.
+pub fn nothing_spent()
+    ensures { NothingSpent }
+{}
+
+/// What a query gives up first is the first packet of the first end with one.
+pub fn packet_spent_first()
+    ensures { PacketSpentFirst }
+{}
+
+/// Where none has one, it is the status query of the first end with one.
+pub fn query_spent_first()
+    ensures { QuerySpentFirst }
+{}
+
+/// A datagram to this segment, on a connection that has an end here, has the end that it is for.
+pub fn side_is_here()
+    ensures { SideIsHere }
 {}
