@@ -1,8 +1,9 @@
 -- What one more entry does to who is live.
-use Rattle.std.proofs.Common.{◌≡◌, ◌≢◌, ℕ, List, [], ◌∷◌, ◌++◌, true, cond, Err, refl, ap, sym, ◌∙◌, subst, inl, inr, ◌⊎◌, append_assoc, append-nil, ◌≤◌, max, arith}
+use Rattle.std.proofs.Common.{◌≡◌, ◌≢◌, ℕ, List, [], ◌∷◌, ◌++◌, true, cond, Err, refl, ap, sym, ◌∙◌, subst, inl, inr, ◌⊎◌, append_assoc, append-nil, ◌≤◌, max, arith, Bool, false, not}
 use Rattle.std.specs.List.{Contains}
 use Rattle.std.proofs.Math.Decide.{dec_le}
 use Rattle.std.proofs.lemmas.List.Elements.{Contains-append_cases, Contains-append_left, Contains-append_right}
+use Rattle.ic_base.specs.declared.keys.ConnKey.{ConnKey}
 use Rattle.ic_base.specs.declared.keys.ConnEnd.{ConnEnd}
 use Rattle.ic_base.specs.declared.keys.BeginNo.TheVariants.{Old, Twice}
 use Rattle.ic_law.specs.declared.history.HubAsk.TheVariants.{Begin, Leave}
@@ -10,12 +11,12 @@ use Rattle.ic_law.specs.declared.history.HubReply.{HubReply}
 use Rattle.ic_law.specs.declared.history.HubReply.TheVariants.{Begun, Memory}
 use Rattle.ic_law.specs.declared.history.Entry.{Entry}
 use Rattle.ic_law.specs.History.{was_begun, left_by, leaves, left_of}
-use Rattle.ic_law.specs.Points.{Place, IsLive}
+use Rattle.ic_law.specs.Points.{Place, IsDirected, IsLive, IsHere}
 use Rattle.ic_law.specs.Arriving.{AnswersBegin, IsOldOne, IsTwice, IsNew}
 use Rattle.ic_law.specs.Hub.{HubLaw}
 use Rattle.ic_law.proofs.Lists.{cut_at, inside, Contains-none, Contains-head, Contains-one, flat_map-append}
 use Rattle.ic_law.proofs.Readings.{left_of-push}
-use Rattle.ic_ends.specs.Living.{OthersLiveOn, BegunIsLive, LeftIsNotLive, LiveOnce, LiveAreThere, OldUpto, LeftTops}
+use Rattle.ic_ends.specs.Living.{OthersLiveOn, BegunIsLive, LeftIsNotLive, LiveOnce, AreThere, LiveAreThere, SideIsHere, OldUpto, LeftTops}
 use Rattle.ic_ends.proofs.Telling.{entry_is}
 
 -- ---- one more entry
@@ -173,6 +174,22 @@ live_are_there place h query ends law live = record {
     λ at. record { ends = ends; live = subst (λ n. IsLive n ends h) (sym same) live; stands = at },
   );
 }
+
+pub side_is_here : SideIsHere
+side_is_here place h end d forth law here to directed = by end.sending forth refl directed
+  where
+    there : AreThere place end.key.query here.ends h
+    there = live_are_there place h end.key.query here.ends law here.live
+
+    -- the end on the other side
+    across : end.key.from ≡ end.key.to → (other : ConnEnd) × IsHere other h × (other.key ≡ end.key) × (other.sending ≡ not end.sending)
+    across itself = let w = there.are.both end here.stands itself in (w.0, (there.here w.0 (ap (λ (k : ConnKey). k.query) w.2)).1 w.1, w.2, w.3)
+
+    by : (sends b : Bool) → end.sending ≡ sends → IsDirected b d end.key → (other : ConnEnd) × IsHere other h × (other.key ≡ end.key) × (other.sending ≡ not b)
+    by true false is way = (end, here, refl, is)
+    by false true is way = (end, here, refl, is)
+    by true true is way = let w = across ((there.are.each end here.stands).sends_here is ∙ sym to ∙ way.1) in (w.0, w.1, w.2, w.3 ∙ ap not is)
+    by false false is way = let w = across (sym way.1 ∙ to ∙ sym ((there.are.each end here.stands).receives_here is)) in (w.0, w.1, w.2, w.3 ∙ ap not is)
 
 -- ---- the greatest query that was left
 

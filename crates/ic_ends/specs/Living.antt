@@ -1,10 +1,11 @@
 -- Which queries are live, and which ends are here, after one more entry.
-use Rattle.std.specs.Prelude.{◌≡◌, ◌≢◌, ◌≤◌, ◌⊎◌, ◌↔◌, ℕ, max, List, [], ◌∷◌, ◌++◌, true, Contains}
+use Rattle.std.specs.Prelude.{◌≡◌, ◌≢◌, ◌≤◌, ◌⊎◌, ◌↔◌, ℕ, max, List, [], ◌∷◌, ◌++◌, Bool, true, not, Contains}
 use Rattle.ic_base.specs.declared.keys.ConnEnd.{ConnEnd}
+use Rattle.ic_base.specs.declared.datagram.Datagram.{Datagram}
 use Rattle.ic_law.specs.declared.history.HubAsk.TheVariants.{Begin, Leave}
 use Rattle.ic_law.specs.declared.history.Entry.{Entry}
 use Rattle.ic_law.specs.History.{was_begun, was_left, leaves, left_of}
-use Rattle.ic_law.specs.Points.{Place, IsLive, IsHere}
+use Rattle.ic_law.specs.Points.{Place, IsDirected, IsLive, IsHere}
 use Rattle.ic_law.specs.Asking.{AreEnds}
 use Rattle.ic_law.specs.Arriving.{IsOld, IsGreatestLeft}
 use Rattle.ic_law.specs.Hub.{HubLaw}
@@ -54,6 +55,12 @@ pub record AreThere (place : Place) (query : ℕ) (ends : List ConnEnd) (h : Lis
 
 abbrev pub LiveAreThere : Type 0
 LiveAreThere = (place : Place) (h : List Entry) (query : ℕ) (ends : List ConnEnd) → HubLaw place h → IsLive query ends h → AreThere place query ends h
+
+-- A datagram to this segment on a connection that has an end here has the end that it is for: with the other side here
+-- alone, the connection would lead from the segment to itself, and has both.
+abbrev pub SideIsHere : Type 0
+SideIsHere = (place : Place) (h : List Entry) (end : ConnEnd) (d : Datagram) (forth : Bool) → HubLaw place h → IsHere end h → d.to ≡ place.at → IsDirected forth d end.key
+    → (other : ConnEnd) × IsHere other h × (other.key ≡ end.key) × (other.sending ≡ not forth)
 
 -- ---- the greatest query that was left
 

@@ -2,7 +2,7 @@
 ghost use Rattle.ic_ends.specs.Clocks.{ClockMoves, NothingSpent, PacketSpentFirst, QuerySpentFirst};
 ghost use Rattle.ic_ends.specs.Serving.{ServedBefore, ServedNow, ServedNobody};
 ghost use Rattle.ic_ends.specs.Formed.{AnswersAreFormed, TurnedIsFormed};
-ghost use Rattle.ic_ends.specs.Living.{LiveAreThere, OldUpto, LeftTops, OthersLiveOn, BegunIsLive, LeftIsNotLive, LiveOnce};
+ghost use Rattle.ic_ends.specs.Living.{LiveAreThere, SideIsHere, OldUpto, LeftTops, OthersLiveOn, BegunIsLive, LeftIsNotLive, LiveOnce};
 ghost use Rattle.ic_ends.specs.Laws.{GoesFirst, GoesOn, ConcernedPasses, NoughtPasses, TickPasses, ConcernedPoint, NoughtPoint, TickPoint, LawGoesOn, EmissionGoesOn, StaysAhead, AheadGoesOn};
 
 /// An entry about one end leaves every other end standing.
@@ -143,4 +143,9 @@ pub fn packet_spent_first()
 /// Where none has one, it is the status query of the first end with one.
 pub fn query_spent_first()
     ensures { QuerySpentFirst }
+{}
+
+/// A datagram to this segment, on a connection that has an end here, has the end that it is for.
+pub fn side_is_here()
+    ensures { SideIsHere }
 {}

@@ -17,6 +17,6 @@ pub use laws::{
     ahead_goes_on, answers_formed, clock_moves, concerned_passes, concerned_point,
     emission_goes_on, goes_first, goes_on, law_goes_on, left_tops, live_are_there, live_once,
     lives_from, lives_on, lives_until, nothing_spent, nought_passes, nought_point, old_upto,
-    packet_spent_first, query_spent_first, served_before, served_nobody, served_now, stays_ahead,
-    tick_passes, tick_point, turned_formed,
+    packet_spent_first, query_spent_first, served_before, served_nobody, served_now, side_is_here,
+    stays_ahead, tick_passes, tick_point, turned_formed,
 };

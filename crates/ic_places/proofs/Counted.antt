@@ -1,5 +1,5 @@
 -- Slots: what they count, where they lead, and that they come to each end once.
-use Rattle.std.proofs.Common.{◌≡◌, ℕ, ◌+◌, ◌<◌, suc, zero, Bool, true, false, not, cond, List, [], ◌∷◌, map, filter, length, take, get_or, slice_get, All, Option, None, Some, refl, sym, ap, subst, ◌∙◌, arith}
+use Rattle.std.proofs.Common.{◌≡◌, ℕ, ◌+◌, suc, zero, Bool, true, false, not, cond, List, [], ◌∷◌, filter, length, take, get_or, slice_get, All, Option, None, Some, refl, sym, ap, ◌∙◌, arith}
 use Rattle.std.specs.List.{filter_map, range_with_len}
 use Rattle.std.specs.Option.{option_map}
 use Rattle.std.proofs.lemmas.Option.{slice_get_within, slice_get-get_or}
@@ -38,13 +38,15 @@ slots_count senders receivers (e ∷ ends) (suc i) = by e.sending (slots_count (
   where
     sent : List ConnEnd
     sent = sending_ends (take i ends)
+
     got : List ConnEnd
     got = receiving_ends (take i ends)
+
     by : (b : Bool) → slice_get (slots_behind (senders + 1) receivers ends) i ≡ option_map (counted (senders + 1) receivers ends i) (slice_get ends i)
         → slice_get (slots_behind senders (receivers + 1) ends) i ≡ option_map (counted senders (receivers + 1) ends i) (slice_get ends i)
         → slice_get (cond b (slots_behind (senders + 1) receivers ends) (slots_behind senders (receivers + 1) ends)) i
         ≡ option_map (λ d. slot_at d.sending (senders + length (cond b (e ∷ sending_ends (take i ends)) (sending_ends (take i ends))))
-            (receivers + length (cond (not b) (e ∷ receiving_ends (take i ends)) (receiving_ends (take i ends))))) (slice_get ends i)
+        (receivers + length (cond (not b) (e ∷ receiving_ends (take i ends)) (receiving_ends (take i ends))))) (slice_get ends i)
     by true s r = let at : senders + 1 + length (sending_ends (take i ends)) ≡ senders + length (e ∷ sending_ends (take i ends)) = omega arith in
         s ∙ ap (λ n. option_map (λ d. slot_at d.sending n (receivers + length (receiving_ends (take i ends)))) (slice_get ends i)) at
     by false s r = let at : receivers + 1 + length (receiving_ends (take i ends)) ≡ receivers + length (e ∷ receiving_ends (take i ends)) = omega arith in
@@ -102,7 +104,7 @@ stands ends (Receiver place) e h = slice_get_within (receiving_ends ends) place 
 pub slots_within : (ends : List ConnEnd) → All (IsWithin ends) (slots_of ends)
 slots_within ends k d within =
     let r : (e : ConnEnd) × (slice_get ends k ≡ Some e) × (end_at ends (get_or (slots_of ends) k d) ≡ Some e) =
-        slot_leads ends (get_or (slots_of ends) k d) k (slice_get-get_or (slots_of ends) k d within) in
+    slot_leads ends (get_or (slots_of ends) k d) k (slice_get-get_or (slots_of ends) k d within) in
     stands ends (get_or (slots_of ends) k d) r.0 r.2
 
 -- ---- once each

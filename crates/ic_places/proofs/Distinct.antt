@@ -58,9 +58,8 @@ module _ {K : Type 0} where
       let rest : List K = filter (λ y. not (eq x y)) (distinct eq xs) in
       IsDistinct-cons eq x rest
       (recursion_from_All (λ y. eq x y ≡ false) rest
-        (All-weaker (λ y. not (eq x y) ≡ true) (λ y. eq x y ≡ false) (λ y h. not-true (eq x y) h) rest (filter_passes (λ y. not (eq x y)) (distinct eq xs))))
+      (All-weaker (λ y. not (eq x y) ≡ true) (λ y. eq x y ≡ false) (λ y h. not-true (eq x y) h) rest (filter_passes (λ y. not (eq x y)) (distinct eq xs))))
       (IsDistinct-filtered eq (λ y. not (eq x y)) (distinct eq xs) (distinct_is eq xs))
-
   -- ---- into a set
 
 module _ {K : Type 0} (eq : K → K → Bool) (same : (x y : K) → eq x y ≡ true → x ≡ y) (flips : (x y : K) → eq x y ≡ eq y x) where
@@ -95,16 +94,17 @@ module _ {K : Type 0} (eq : K → K → Bool) (same : (x y : K) → eq x y ≡ t
     where
       rest : List K
       rest = distinct eq xs
+
       by : (b : Bool) → list_any (eq x) ks ≡ b → ((l : List K) → insert_all eq l xs ≡ l ++ filter (is_new l) rest)
           → insert_all eq ks (x ∷ xs) ≡ ks ++ filter (is_new ks) (x ∷ filter (λ y. not (eq x y)) rest)
       by true e on =
           ap (λ b. insert_all eq (if b then ks else ks ++ x ∷ []) xs) e ∙ on ks
           ∙ ap (λ l. ks ++ l) (sym (one_passes (is_new ks) x (filter (λ y. not (eq x y)) rest) false (ap not e)
-            ∙ filter_twice (is_new ks) (λ y. not (eq x y)) rest ∙ filter_agree (λ y. not (eq x y) && is_new ks y) (is_new ks) (there ks x e) rest))
+          ∙ filter_twice (is_new ks) (λ y. not (eq x y)) rest ∙ filter_agree (λ y. not (eq x y) && is_new ks y) (is_new ks) (there ks x e) rest))
       by false e on =
           ap (λ b. insert_all eq (if b then ks else ks ++ x ∷ []) xs) e ∙ on (ks ++ x ∷ []) ∙ append_assoc ks (x ∷ []) (filter (is_new (ks ++ x ∷ [])) rest)
           ∙ ap (λ l. ks ++ x ∷ l) (sym (filter_twice (is_new ks) (λ y. not (eq x y)) rest
-            ∙ filter_agree (λ y. not (eq x y) && is_new ks y) (is_new (ks ++ x ∷ [])) (behind ks x) rest))
+          ∙ filter_agree (λ y. not (eq x y) && is_new ks y) (is_new (ks ++ x ∷ [])) (behind ks x) rest))
           ∙ ap (λ l. ks ++ l) (sym (one_passes (is_new ks) x (filter (λ y. not (eq x y)) rest) true (ap not e)))
 
   -- all put into an empty set are the distinct ones, in their order

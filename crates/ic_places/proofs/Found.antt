@@ -1,5 +1,5 @@
 -- What is found when places are made is what is said of the ends.
-use Rattle.std.proofs.Common.{◌≡◌, ◌==◌, ℕ, ◌+◌, ◌<◌, Bool, true, false, not, cond, List, [], ◌∷◌, map, filter, position, length, get_or, All, Option, refl, sym, ap, subst, ◌∙◌, arith}
+use Rattle.std.proofs.Common.{◌≡◌, ◌==◌, ℕ, ◌+◌, ◌<◌, Bool, true, false, cond, List, [], ◌∷◌, map, filter, position, length, get_or, All, Option, refl, sym, ap, subst, ◌∙◌, arith}
 use Rattle.std.specs.List.{enumerate_from}
 use Rattle.std.proofs.lemmas.List.{length-map}
 use Rattle.std.proofs.lemmas.List.Elements.{All-filter, All-map, All-get_or, All-same}
@@ -10,7 +10,8 @@ use Rattle.ic_base.specs.declared.keys.ConnEnd.{ConnEnd}
 use Rattle.ic_places.specs.declared.slots.Sides.{Sides}
 use Rattle.ic_places.specs.declared.slots.Slot.{Slot}
 use Rattle.ic_places.specs.Ends.{sending_ends, receiving_ends, keys_of, sender_at, receiver_at, motions_of, receivers_of, distinct, places_where}
-use Rattle.ic_places.specs.Slots.{sides_at, slots_of, AreOf}
+use Rattle.ic_places.specs.Slots.{slots_of}
+use Rattle.ic_places.specs.Kept.{sides_at, AreOf}
 use Rattle.ic_places.proofs.Position.{position-map}
 
 -- ---- maps
@@ -27,8 +28,10 @@ places-map {X} {Y} test f n (x ∷ xs) = by (test (f x)) (places-map test f (n +
   where
     some : List (ℕ × Y)
     some = filter (λ p. test p.1) (enumerate_from (n + 1) (map f xs))
+
     others : List (ℕ × X)
     others = filter (λ p. test (f p.1)) (enumerate_from (n + 1) xs)
+
     by : (b : Bool) → map (λ p. p.0) some ≡ map (λ p. p.0) others → map (λ p. p.0) (cond b ((n, f x) ∷ some) some) ≡ map (λ p. p.0) (cond b ((n, x) ∷ others) others)
     by true g = ap (λ l. n ∷ l) g
     by false g = g
@@ -82,9 +85,9 @@ places_within : {X : Type 0} (test : X → Bool) (xs : List X) → All (λ place
 places_within {X} test xs =
     All-map (λ place. place < length xs) (λ p. p.0) (filter (λ p. test p.1) (enumerate_from 0 xs))
     (All-filter (λ p. test p.1) (λ p. p.0 < length xs) (enumerate_from 0 xs) (λ k d within.
-      let l : k < length xs = omega (arith, within, length-enumerate_from 0 xs) in
-      let n : 0 + k < length xs = omega (arith, l) in
-      subst (λ (p : ℕ × X). p.0 < length xs) (sym (get_or-enumerate_from 0 xs k d l)) n))
+    let l : k < length xs = omega (arith, within, length-enumerate_from 0 xs) in
+    let n : 0 + k < length xs = omega (arith, l) in
+    subst (λ (p : ℕ × X). p.0 < length xs) (sym (get_or-enumerate_from 0 xs k d l)) n))
 
 pub row_within : (ends : List ConnEnd) (rows : List (List ℕ)) (motion : ℕ) (row : List ℕ) → rows ≡ map (receivers_of ends) (motions_of ends)
     → motion < length (motions_of ends) → row ≡ get_or rows motion row → All (λ place. place < length (receiving_ends ends)) row
@@ -93,4 +96,4 @@ row_within ends rows motion row is within at =
     let W : List ℕ → Type 0 = All (λ place. place < length (receiving_ends ends)) in
     let l : motion < length rows = omega (arith, within, ap length is, length-map (motions_of ends) (receivers_of ends)) in
     subst W (sym at) (All-get_or W rows motion row l (All-same W rows (map (receivers_of ends) (motions_of ends)) is
-      (All-map W (receivers_of ends) (motions_of ends) (λ k d _. places_within (λ e. e.key.motion == get_or (motions_of ends) k d) (receiving_ends ends)))))
+    (All-map W (receivers_of ends) (motions_of ends) (λ k d _. places_within (λ e. e.key.motion == get_or (motions_of ends) k d) (receiving_ends ends)))))

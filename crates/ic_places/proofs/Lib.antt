@@ -7,3 +7,4 @@ pub mod Counted
 pub mod Found
 pub mod Named
 pub mod Rising
+pub mod Within

@@ -1,5 +1,5 @@
 -- Laws of keys, sides and motions.
-use Rattle.std.proofs.Common.{◌≡◌, ◌≢◌, ◌==◌, ℕ, ◌+◌, ◌<◌, Bool, ◌⊎◌, inl, inr, true, false, not, cond, nat_lt, List, [], ◌∷◌, map, filter, position, length, get_or, slice_get, Contains, Option, None, Some, refl, sym, ap, subst, ◌∙◌, true≢false, arith}
+use Rattle.std.proofs.Common.{◌≡◌, ◌≢◌, ◌==◌, ℕ, ◌+◌, ◌<◌, Bool, inl, inr, true, false, not, cond, nat_lt, List, [], ◌∷◌, map, position, length, get_or, slice_get, Contains, None, Some, refl, sym, ap, subst, ◌∙◌, true≢false, arith}
 use Rattle.std.specs.List.{IsDistinct, position_from, position_or_len}
 use Rattle.std.specs.Option.{option_map}
 use Rattle.std.proofs.lemmas.Bool.{eqb-true, eq-eqb, not-true, le-leb}
@@ -21,10 +21,14 @@ use Rattle.ic_places.proofs.Member.{Has, has, contained, kept, keeps, from_map, 
 
 pub ends_have_their_sides : EndsHaveTheirSides
 ends_have_their_sides ends e = (
-  (λ c. (let r : Has ends e × (e.sending ≡ true) = kept (λ d. d.sending) ends e (has (sending_ends ends) e c) in (contained ends e r.0, r.1)),
-   λ h. contained (sending_ends ends) e (keeps (λ d. d.sending) ends e (has ends e h.0) h.1)),
-  (λ c. (let r : Has ends e × (not e.sending ≡ true) = kept (λ d. not d.sending) ends e (has (receiving_ends ends) e c) in (contained ends e r.0, not-true e.sending r.1)),
-   λ h. contained (receiving_ends ends) e (keeps (λ d. not d.sending) ends e (has ends e h.0) (ap not h.1))),
+  (
+    λ c. (let r : Has ends e × (e.sending ≡ true) = kept (λ d. d.sending) ends e (has (sending_ends ends) e c) in (contained ends e r.0, r.1)),
+    λ h. contained (sending_ends ends) e (keeps (λ d. d.sending) ends e (has ends e h.0) h.1),
+  ),
+  (
+    λ c. (let r : Has ends e × (not e.sending ≡ true) = kept (λ d. not d.sending) ends e (has (receiving_ends ends) e c) in (contained ends e r.0, not-true e.sending r.1)),
+    λ h. contained (receiving_ends ends) e (keeps (λ d. not d.sending) ends e (has ends e h.0) (ap not h.1)),
+  ),
 )
 
 -- the elements that a function gives of a list's, without repetition
@@ -56,9 +60,9 @@ unfolding receivers_of
 receivers_have_the_motion ends motion place = (
   λ c. (let r : (e : ConnEnd) × (slice_get (receiving_ends ends) place ≡ Some e) × ((e.key.motion == motion) ≡ true) =
       from_places (λ e. e.key.motion == motion) (receiving_ends ends) place (has (places_where (λ e. e.key.motion == motion) (receiving_ends ends)) place c) in
-    (r.0, r.1, eqb-true r.0.key.motion motion r.2)),
+      (r.0, r.1, eqb-true r.0.key.motion motion r.2)),
   λ h. contained (places_where (λ e. e.key.motion == motion) (receiving_ends ends)) place
-    (to_places (λ e. e.key.motion == motion) (receiving_ends ends) place h.0 h.1 (eq-eqb h.0.key.motion motion h.2)),
+      (to_places (λ e. e.key.motion == motion) (receiving_ends ends) place h.0 h.1 (eq-eqb h.0.key.motion motion h.2)),
 )
 
 -- ---- the first place
@@ -99,11 +103,11 @@ found_among : (of_side : List ConnEnd) → AreFound of_side (λ key. position (�
 found_among of_side = record {
   some = λ key place h.
       (let p : (place < length of_side) × (key_eq key (get_or of_side place (some_end key)).key ≡ true) × ((k : ℕ) → k < place → key_eq key (get_or of_side k (some_end key)).key ≡ false) =
-          position-Some (λ e. key_eq key e.key) of_side place (some_end key) h in
-        (get_or of_side place (some_end key), slice_get-get_or of_side place (some_end key) p.0, sym (key_eq-tells key (get_or of_side place (some_end key)).key p.1)));
+      position-Some (λ e. key_eq key e.key) of_side place (some_end key) h in
+      (get_or of_side place (some_end key), slice_get-get_or of_side place (some_end key) p.0, sym (key_eq-tells key (get_or of_side place (some_end key)).key p.1)));
   none = λ key. (
     λ h e c is. true≢false (sym (ap (key_eq key) is ∙ key_eq-same key)
-      ∙ none_passes (λ e. key_eq key e.key) 0 of_side (sym (position_from-zero (λ e. key_eq key e.key) of_side) ∙ h) e (has of_side e c)),
+        ∙ none_passes (λ e. key_eq key e.key) 0 of_side (sym (position_from-zero (λ e. key_eq key e.key) of_side) ∙ h) e (has of_side e c)),
     λ h. position_from-zero (λ e. key_eq key e.key) of_side ∙ from_none (λ e. key_eq key e.key) 0 of_side (λ e at. differs key e (h e (contained of_side e at))),
   );
   each = λ differ e place at. sym (position-map (key_eq e.key) (λ d. d.key) of_side)

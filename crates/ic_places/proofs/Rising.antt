@@ -20,6 +20,7 @@ places_rise {X} test n (x ∷ xs) = by (test x) (places_rise test (n + 1) xs)
   where
     rest : List (ℕ × X)
     rest = filter (λ p. test p.1) (enumerate_from (n + 1) xs)
+
     by : (b : Bool) → Rises (n + 1) (map (λ p. p.0) rest) → Rises n (map (λ p. p.0) (cond b ((n, x) ∷ rest) rest))
     by true g = (omega arith, g)
     by false g = lower (n + 1) n (map (λ p. p.0) rest) (omega arith) g

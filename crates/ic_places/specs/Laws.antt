@@ -1,5 +1,5 @@
 -- What follows of where ends stand.
-use Rattle.std.specs.Prelude.{◌≡◌, ◌≢◌, ◌↔◌, ℕ, ◌==◌, true, false, List, map, filter, length, take, slice_get, Contains, Option, None, Some}
+use Rattle.std.specs.Prelude.{◌≡◌, ◌≢◌, ◌↔◌, ℕ, ◌==◌, true, false, List, map, length, take, slice_get, Contains, Option, None, Some}
 use Rattle.std.specs.List.{IsDistinct, filter_map, range_with_len}
 use Rattle.std.specs.List.Sorted.{IsStrictlyIncreasing}
 use Rattle.ic_base.specs.Keys.{key_eq}
@@ -69,7 +69,7 @@ SlotsAreTheirEnds =
     (ends : List ConnEnd)
     → (length (slots_of ends) ≡ length ends)
     × ((e : ConnEnd) (i : ℕ) → slice_get ends i ≡ Some e
-        → slice_get (slots_of ends) i ≡ Some (slot_at e.sending (length (sending_ends (take i ends))) (length (receiving_ends (take i ends)))))
+    → slice_get (slots_of ends) i ≡ Some (slot_at e.sending (length (sending_ends (take i ends))) (length (receiving_ends (take i ends)))))
     × ((slot : Slot) (i : ℕ) → slice_get (slots_of ends) i ≡ Some slot → (e : ConnEnd) × (slice_get ends i ≡ Some e) × (end_at ends slot ≡ Some e))
 
 -- the slots come to each sending end once, in their order, and to each receiving one

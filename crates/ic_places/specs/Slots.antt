@@ -1,11 +1,9 @@
 -- The ends in their order, each as its place among those of its side.
-use Rattle.std.specs.Prelude.{◌≡◌, ℕ, ◌+◌, ◌<◌, Bool, true, false, not, if◌then◌else◌, List, [], ◌∷◌, map, length, slice_get, Option, None, Some}
-use Rattle.ic_base.specs.declared.keys.ConnKey.{ConnKey}
+use Rattle.std.specs.Prelude.{ℕ, ◌+◌, ◌<◌, Bool, true, false, if◌then◌else◌, List, [], ◌∷◌, length, slice_get, Option, None, Some}
 use Rattle.ic_base.specs.declared.keys.ConnEnd.{ConnEnd}
 use Rattle.ic_places.specs.declared.slots.Slot.{Slot}
 use Rattle.ic_places.specs.declared.slots.Slot.TheVariants.{Sender, Receiver}
-use Rattle.ic_places.specs.declared.slots.Sides.{Sides}
-use Rattle.ic_places.specs.Ends.{sending_ends, receiving_ends, keys_of, sender_at, receiver_at, motions_of, receivers_of}
+use Rattle.ic_places.specs.Ends.{sending_ends, receiving_ends}
 
 -- an end's place, where so many that send and so many that receive stand before it
 abbrev pub slot_at : Bool → ℕ → ℕ → Slot
@@ -32,23 +30,12 @@ abbrev pub IsWithin : List ConnEnd → Slot → Type 0
 IsWithin ends (Sender place) = place < length (sending_ends ends)
 IsWithin ends (Receiver place) = place < length (receiving_ends ends)
 
--- the place of a sending end, and of a receiving one
+-- the place, where it is a sending end's
 abbrev pub sender_in : Slot → Option ℕ
 sender_in (Sender place) = Some place
 sender_in (Receiver place) = None
 
+-- the place, where it is a receiving end's
 abbrev pub receiver_in : Slot → Option ℕ
 receiver_in (Sender place) = None
 receiver_in (Receiver place) = Some place
-
--- where the two ends of a key stand
-abbrev pub sides_at : List ConnEnd → ConnKey → Sides
-sides_at ends key = record { sender = sender_at ends key; receiver = receiver_at ends key }
-
--- these are the keys, sides, motions, receivers and places of the ends
-pub record AreOf (ends : List ConnEnd) (keys : List ConnKey) (sides : List Sides) (motions : List ℕ) (receivers : List (List ℕ)) (order : List Slot) : Type 0 where
-  pub keys_are : keys ≡ keys_of ends
-  pub sides_are : sides ≡ map (sides_at ends) (keys_of ends)
-  pub motions_are : motions ≡ motions_of ends
-  pub receivers_are : receivers ≡ map (receivers_of ends) (motions_of ends)
-  pub order_is : order ≡ slots_of ends

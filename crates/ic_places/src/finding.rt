@@ -114,11 +114,7 @@ fn places_of(alloc: Global, keys: &[ConnKey], motion: u32) -> Result<Vec<usize>,
 }
 
 /// The places of the keys of each motion. Walks the keys once for each.
-pub fn rows_in(
-    alloc: Global,
-    keys: &[ConnKey],
-    motions: &[u32],
-) -> Result<Vec<Row>, AllocError>
+pub fn rows_in(alloc: Global, keys: &[ConnKey], motions: &[u32]) -> Result<Vec<Row>, AllocError>
     ensures { IfOk result (λ v. v.items ≡ map (λ m. places_where (λ k. k.motion == m) keys.now) motions.now) }
 {
     let mut rows = Vec::with_capacity(alloc, motions.len())?;

@@ -1,9 +1,9 @@
 // Where the ends stand.
-ghost use Rattle.std.specs.Prelude.{◌≡◌, ◌==◌, ℕ, ◌<◌, length, position, slice_get, Some, All, IfOk};
+ghost use Rattle.std.specs.Prelude.{◌≡◌, ◌==◌, ℕ, ◌<◌, length, position, slice_get, Some, All, IfSome, IfOk};
 ghost use Rattle.std.specs.List.{IsDistinct};
 ghost use Rattle.ic_base.specs.Keys.{key_eq};
 ghost use Rattle.ic_base.specs.declared.keys.ConnKey.{ConnKey};
-ghost use Rattle.ic_places.specs.Ends.{receiving_ends, keys_of, sender_at, receiver_at, motions_of, receivers_of};
+ghost use Rattle.ic_places.specs.Ends.{sending_ends, receiving_ends, keys_of, sender_at, receiver_at, motions_of, receivers_of};
 ghost use Rattle.ic_places.specs.Slots.{slots_of, IsWithin};
 
 use crate::finding::{
@@ -36,7 +36,7 @@ pub struct Places {
 impl Model for Places {
     ghost use Rattle.std.specs.Prelude.{List};
     ghost use Rattle.ic_base.specs.declared.keys.ConnEnd.{ConnEnd};
-    ghost use Rattle.ic_places.specs.Slots.{AreOf};
+    ghost use Rattle.ic_places.specs.Kept.{AreOf};
 
     ghost Value = { List ConnEnd };
 
@@ -90,6 +90,8 @@ impl Places {
         requires { place < length (keys_of self.now) }
         ensures sender { (key : ConnKey) → slice_get (keys_of self.now) place ≡ Some key → result.sender ≡ sender_at self.now key }
         ensures receiver { (key : ConnKey) → slice_get (keys_of self.now) place ≡ Some key → result.receiver ≡ receiver_at self.now key }
+        ensures sender_within { IfSome result.sender (λ i. i < length (sending_ends self.now)) }
+        ensures receiver_within { IfSome result.receiver (λ i. i < length (receiving_ends self.now)) }
     {
         self.sides[place]
     }
@@ -97,7 +99,8 @@ impl Places {
     /// The place of a motion among those of the receiving ends, and `None` exactly where no receiving end has it. One
     /// look-up by hash.
     pub fn motion(&self, number: u32) -> Option<usize>
-        ensures { result ≡ position (λ m. m == number) (motions_of self.now) }
+        ensures value { result ≡ position (λ m. m == number) (motions_of self.now) }
+        ensures within { IfSome result (λ i. i < length (motions_of self.now)) }
     {
         self.motions.get_index_of(&number)
     }

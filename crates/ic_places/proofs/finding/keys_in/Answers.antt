@@ -1,4 +1,4 @@
-use Rattle.std.proofs.Common.{[], map, length, drop, ap, sym, ◌∙◌}
+use Rattle.std.proofs.Common.{[], map, ap, sym, ◌∙◌}
 use Rattle.std.proofs.lemmas.List.{drop_all}
 use Rattle.indexmap.specs.IndexSet.{insert_all}
 use Rattle.ic_base.specs.Keys.{key_eq}

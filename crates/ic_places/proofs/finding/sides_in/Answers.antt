@@ -1,4 +1,4 @@
-use Rattle.std.proofs.Common.{List, [], ◌∷◌, ◌++◌, ◌∙◌}
+use Rattle.std.proofs.Common.{[], ◌∷◌, ◌++◌, ◌∙◌}
 use Rattle.std.specs.HashMap.{get}
 use Rattle.ic_base.specs.Keys.{key_eq}
 use Rattle.ic_places.specs.declared.slots.Sides.{Sides}

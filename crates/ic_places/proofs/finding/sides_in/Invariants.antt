@@ -1,7 +1,6 @@
 use Rattle.std.proofs.Common.{◌≡◌, map, take}
 use Rattle.std.specs.HashMap.{get}
 use Rattle.ic_base.specs.Keys.{key_eq}
-use Rattle.ic_places.specs.declared.slots.Sides.{Sides}
 use Rattle.ic_places.proofs.finding.sides_in.Given as goal
 
 abbrev pub invariant-loop-key : goal.invariant-loop-key

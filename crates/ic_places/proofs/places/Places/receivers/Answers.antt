@@ -1,4 +1,4 @@
-use Rattle.std.proofs.Common.{◌<◌, All, length, sym, subst, ◌∙◌}
+use Rattle.std.proofs.Common.{◌<◌, All, length, sym, subst}
 use Rattle.ic_places.specs.Ends.{receiving_ends, motions_of}
 use Rattle.ic_places.proofs.Found.{row_within}
 use Rattle.ic_places.proofs.places.Places.receivers.Goals as goal
