@@ -1,13 +1,13 @@
 // One receiving connection.
-ghost use Rattle.std.specs.Prelude.{◌≡◌, ℕ, ◌↔◌, List, [], ◌∷◌, ◌++◌, true, false, Err, IfOk, OnErr, IsTrue};
+ghost use Rattle.std.specs.Prelude.{◌≡◌, ◌⊎◌, ℕ, ◌↔◌, List, [], ◌∷◌, ◌++◌, true, false, Err, IfOk, OnErr, IsTrue};
 ghost use Rattle.ic_base.specs.Settings.{AreChecked};
 ghost use Rattle.ic_law.specs.declared.history.Entry.{Entry};
 ghost use Rattle.ic_law.specs.declared.history.HubNo.TheVariants as refused;
 ghost use Rattle.ic_law.specs.Points.{IsEnded};
 ghost use Rattle.ic_law.specs.Receiving.{IsTaking};
-ghost use Rattle.ic_receiver.specs.Receiving.{Hears, HearsQuery, IsOver, IsEmpty, HandsOver, Halts, begun};
+ghost use Rattle.ic_receiver.specs.Receiving.{Hears, HearsQuery, IsOver, IsEmpty, IsReady, HandsOver, Halts, begun};
 ghost use Rattle.ic_receiver.specs.Entries.{IsHearing, IsQuerying, IsRefusing, IsHalting};
-ghost use Rattle.ic_receiver.specs.Standing.{Stands, StandsOn, IsUntouched, TakesNoMore, WaitsForNext, TakesNow};
+ghost use Rattle.ic_receiver.specs.Standing.{Stands, StandsOn, IsUntouched, TakesNoMore, WaitsForNext, NotReady, TakesNow};
 
 use crate::answer::answer;
 use crate::hearing::{hand_over, hear};
@@ -82,7 +82,7 @@ impl Receiver {
     pub fn is_ready(&self) -> bool
         ensures ready { result ≡ true → IsReady self.now }
         ensures waits { result ≡ false → IsEmpty self.now ⊎ IsOver self.now }
-        ensures none { result ≡ false → (settings : _) (h : List Entry) → Stands settings self.now h → (IsEnded self.now.end.key h → ⊥) → (p : _) → IsNext self.now.end.key h p → ⊥ }
+        ensures none { result ≡ false → NotReady self.now }
     {
         match &self.ring {
             Some(ring) => !self.whole && ring.front().is_some(),
