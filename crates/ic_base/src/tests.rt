@@ -1,3 +1,5 @@
+mod ports;
+
 use super::*;
 use std::test::Fail;
 

@@ -1,0 +1,133 @@
+-- The port of a slice worker: its connections, the log of its calls, and why a call may be refused.
+use Rattle.std.specs.Prelude.{◌≡◌, ℕ, ◌+◌, ◌-◌, ◌^◌, ◌≤◌, min, ℤ, List, [], ◌∷◌, ◌++◌, Any, drop, true, false, Result, Ok, Err}
+use Rattle.ic_base.specs.declared.keys.ConnKey.{ConnKey}
+use Rattle.ic_base.specs.declared.keys.ConnEnd.{ConnEnd}
+use Rattle.ic_base.specs.declared.datagram.Parcel.{Parcel}
+use Rattle.ic_base.specs.declared.port.PortNo.{PortNo}
+use Rattle.ic_base.specs.declared.port.PortNo.TheVariants.{Full, Empty, Stopped, Ended, TooLong, Busy, Memory}
+use Rattle.ic_base.specs.declared.port.PortAsk.{PortAsk}
+use Rattle.ic_base.specs.declared.port.PortReply.{PortReply}
+use Rattle.ic_base.specs.declared.port.PortReply.TheVariants.{Did, Gave, Refused}
+use Rattle.ic_base.specs.declared.port.PortEntry.{PortEntry}
+
+-- ---- connections
+
+-- the worker sends on a connection of this motion to this segment
+abbrev pub SendsTo : List ConnEnd → ℕ → ℤ → Type 0
+SendsTo keys motion to = Any (λ end. (end.sending ≡ true) × (end.key.motion ≡ motion) × (end.key.to ≡ to)) keys
+
+-- the worker sends on this connection, which is of this motion and to this segment
+abbrev pub SendsAs : List ConnEnd → ℕ → ℤ → ConnKey → Type 0
+SendsAs keys motion to key = (key.motion ≡ motion) × (key.to ≡ to) × Any (λ end. (end.sending ≡ true) × (end.key ≡ key)) keys
+
+-- the worker hears this segment on a connection of this motion
+abbrev pub HearsFrom : List ConnEnd → ℕ → ℤ → Type 0
+HearsFrom keys motion sender = Any (λ end. (end.sending ≡ false) × (end.key.motion ≡ motion) × (end.key.from ≡ sender)) keys
+
+-- the worker hears some segment on a connection of this motion
+abbrev pub Hears : List ConnEnd → ℕ → Type 0
+Hears keys motion = Any (λ end. (end.sending ≡ false) × (end.key.motion ≡ motion)) keys
+
+-- ---- the log
+
+-- the reply that the log has for the answer of a call that gives no parcel
+abbrev pub did : Result (Unit {0}) PortNo → PortReply
+did (Ok _) = Did
+did (Err refusal) = Refused refusal
+
+-- the reply that the log has for the answer of a call that gives a parcel
+abbrev pub gave : Result Parcel PortNo → PortReply
+gave (Ok parcel) = Gave parcel
+gave (Err refusal) = Refused refusal
+
+-- what a call adds to the log: its entry, and nothing where it was answered Busy or Memory
+abbrev pub added : PortAsk → PortReply → List PortEntry
+added ask (Refused Busy) = []
+added ask (Refused Memory) = []
+added ask reply = record { ask = ask; reply = reply } ∷ []
+
+-- the log after a call
+abbrev pub logged : PortAsk → PortReply → List PortEntry → List PortEntry
+logged ask reply log = log ++ added ask reply
+
+-- ---- the count of Busy
+
+-- one more, but no more than a u64 holds
+abbrev pub one_more_busy : ℕ → ℕ
+one_more_busy n = min (n + 1) (2 ^ 64 - 1)
+
+-- the count rose, or stands at the end of its type
+abbrev pub BusyRose : ℕ → ℕ → Type 0
+BusyRose before now = one_more_busy before ≤ now
+
+-- the count never falls, and the reply is Busy only where it rose
+pub record CountsBusy (before now : ℕ) (reply : PortReply) : Type 0 where
+  pub later : before ≤ now
+  pub rose : reply ≡ Refused Busy → BusyRose before now
+
+-- ---- refusals
+
+-- why a put or a finish on this motion to this segment may be refused; a key that it names is that of its connection
+abbrev pub MayRefusePut : List ConnEnd → ℕ → ℤ → PortNo → Type 0
+MayRefusePut keys motion to Full = Unit {0}
+MayRefusePut keys motion to Empty = ⊥
+MayRefusePut keys motion to Stopped = Unit {0}
+MayRefusePut keys motion to Ended = ⊥
+MayRefusePut keys motion to (TooLong key) = SendsAs keys motion to key
+MayRefusePut keys motion to Busy = Unit {0}
+MayRefusePut keys motion to Memory = Unit {0}
+
+-- why a take may be refused
+abbrev pub MayRefuseTake : PortNo → Type 0
+MayRefuseTake Full = ⊥
+MayRefuseTake Empty = Unit {0}
+MayRefuseTake Stopped = ⊥
+MayRefuseTake Ended = Unit {0}
+MayRefuseTake (TooLong key) = ⊥
+MayRefuseTake Busy = Unit {0}
+MayRefuseTake Memory = Unit {0}
+
+-- why a halt may be refused
+abbrev pub MayRefuseHalt : PortNo → Type 0
+MayRefuseHalt Full = ⊥
+MayRefuseHalt Empty = ⊥
+MayRefuseHalt Stopped = ⊥
+MayRefuseHalt Ended = ⊥
+MayRefuseHalt (TooLong key) = ⊥
+MayRefuseHalt Busy = Unit {0}
+MayRefuseHalt Memory = Unit {0}
+
+-- ---- a port over a script
+
+-- its connections, the replies that are left, its log, and how often it answered Busy
+pub record Scripted : Type 0 where
+  pub keys : List ConnEnd
+  pub left : List PortReply
+  pub log : List PortEntry
+  pub busy : ℕ
+
+-- before the first call
+abbrev pub scripted : List ConnEnd → List PortReply → Scripted
+scripted keys script = record { keys = keys; left = script; log = []; busy = 0 }
+
+-- the reply that is next, and Memory where the script is over
+abbrev pub next_reply : List PortReply → PortReply
+next_reply [] = Refused Memory
+next_reply (reply ∷ left) = reply
+
+-- the reply is the one that is next in the script, or Memory
+abbrev pub Follows : PortReply → PortReply → Type 0
+Follows next reply = (reply ≡ Refused Memory → ⊥) → reply ≡ next
+
+-- the count after a reply
+abbrev pub busy_after : PortReply → ℕ → ℕ
+busy_after (Refused Busy) n = one_more_busy n
+busy_after reply n = n
+
+-- the next reply was taken out
+abbrev pub without_next : Scripted → Scripted
+without_next s = record s { left = drop 1 s.left }
+
+-- a call and its reply stand in the log, or in the count of Busy
+abbrev pub noted : PortAsk → PortReply → Scripted → Scripted
+noted ask reply s = record s { log = logged ask reply s.log; busy = busy_after reply s.busy }

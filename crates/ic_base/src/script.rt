@@ -1,0 +1,328 @@
+// A port whose replies are given beforehand.
+ghost use Rattle.std.specs.Prelude.{◌≡◌, ◌↔◌, length, IsTrue, true, IfOk, IfErr, OnOk, OnErr, Ok, Err};
+ghost use Rattle.ic_base.specs.declared.port.PortAsk.TheVariants.{Put, Finish, Take, TakeFrom, Halt};
+ghost use Rattle.ic_base.specs.declared.port.PortReply.TheVariants.{Refused};
+ghost use Rattle.ic_base.specs.Ports.{SendsTo, SendsAs, HearsFrom, Hears, did, gave, logged, CountsBusy, MayRefusePut, MayRefuseTake, MayRefuseHalt};
+ghost use Rattle.ic_base.specs.Ports.{scripted, next_reply, Follows, without_next, noted};
+
+use crate::bytes::Bytes;
+use crate::datagram::Parcel;
+use crate::keys::{ConnEnd, ConnEnds, ConnKey, SegId};
+use crate::port::{Port, PortAsk, PortEntries, PortEntry, PortNo, PortReply};
+use std::alloc::{AllocError, Global};
+use std::collections::VecDeque;
+use std::marker::Model;
+
+/// A port over a list of replies, for tests of code over any port. There is no hub behind it.
+///
+/// Each call takes the next reply out of the script and answers it, where this call may be answered so: a parcel only
+/// from a sender that it may come from. Else, and where the script is over or memory is wanting, it answers `Memory`.
+#[derive(Drop)]
+pub struct ScriptPort {
+    keys: ConnEnds,
+    left: VecDeque<PortReply>,
+    log: PortEntries,
+    busy: u64,
+}
+
+impl Model for ScriptPort {
+    ghost use Rattle.ic_base.specs.Ports.{Scripted};
+
+    ghost Value = { Scripted };
+
+    ghost view = { λ p. record { keys = p.keys; left = p.left.items; log = p.log; busy = p.busy } };
+}
+
+impl ScriptPort {
+    /// A port of these connections that answers these replies. Takes no memory.
+    pub fn new(alloc: Global, keys: ConnEnds, script: Vec<PortReply>) -> ScriptPort
+        ensures { result ≡ scripted keys script.items }
+    {
+        ScriptPort {
+            keys,
+            left: VecDeque::from_vec(script),
+            log: PortEntries::new(alloc),
+            busy: 0,
+        }
+    }
+
+    /// Its calls with their replies, but those that were answered `Busy` or `Memory`.
+    pub fn log(&self) -> &[PortEntry]
+        ensures { result.now ≡ self.now.log }
+    {
+        self.log.as_slice()
+    }
+
+    /// How often it has answered `Busy`.
+    pub fn busy(&self) -> u64
+        ensures { result ≡ self.now.busy }
+    {
+        self.busy
+    }
+
+    /// How many replies are left.
+    pub fn left(&self) -> usize
+        ensures { result ≡ length self.now.left }
+    {
+        self.left.len()
+    }
+
+    fn sends_as(&self, motion: u32, to: SegId, key: &ConnKey) -> bool
+        ensures { IsTrue result ↔ SendsAs self.now.keys motion to key.now }
+    {
+        key.motion == motion
+            && key.to == to
+            && self.keys.as_slice().iter().any(|end| is_sending(end, key))
+    }
+
+    fn hears_from(&self, motion: u32, sender: SegId) -> bool
+        ensures { IsTrue result ↔ HearsFrom self.now.keys motion sender }
+    {
+        self.keys.as_slice().iter().any(|end| !end.sending
+            && end.key.motion == motion
+            && end.key.from == sender)
+    }
+
+    fn may_refuse_put(&self, motion: u32, to: SegId, no: &PortNo) -> bool
+        ensures { IsTrue result ↔ MayRefusePut self.now.keys motion to no.now }
+    {
+        match no {
+            PortNo::Full | PortNo::Stopped | PortNo::Busy | PortNo::Memory => true,
+            PortNo::TooLong(key) => self.sends_as(motion, to, key),
+            PortNo::Empty | PortNo::Ended => false,
+        }
+    }
+
+    /// The refusal, where a put or a finish may be refused so.
+    fn sent_or_memory(&self, motion: u32, to: SegId, no: PortNo) -> Result<(), PortNo>
+        ensures follows { Follows (Refused no) (did result) }
+        ensures refusals { IfErr result (MayRefusePut self.now.keys motion to) }
+    {
+        if self.may_refuse_put(motion, to, &no) {
+            Err(no)
+        } else {
+            Err(PortNo::Memory)
+        }
+    }
+
+    fn next(&mut self) -> PortReply
+        ensures reply { result ≡ next_reply self.old.left }
+        ensures left { self.new ≡ without_next self.old }
+    {
+        match self.left.pop_front() {
+            Some(reply) => reply,
+            None => PortReply::Refused(PortNo::Memory),
+        }
+    }
+
+    /// The next answer to a put or a finish.
+    fn next_sent(&mut self, motion: u32, to: SegId) -> Result<(), PortNo>
+        ensures follows { Follows (next_reply self.old.left) (did result) }
+        ensures left { self.new ≡ without_next self.old }
+        ensures refusals { IfErr result (MayRefusePut self.old.keys motion to) }
+    {
+        match done_of(self.next()) {
+            Ok(()) => Ok(()),
+            Err(no) => self.sent_or_memory(motion, to, no),
+        }
+    }
+
+    /// The next answer to a halt.
+    fn next_halted(&mut self) -> Result<(), PortNo>
+        ensures follows { Follows (next_reply self.old.left) (did result) }
+        ensures left { self.new ≡ without_next self.old }
+        ensures refusals { IfErr result MayRefuseHalt }
+    {
+        match self.next() {
+            PortReply::Did => Ok(()),
+            PortReply::Refused(PortNo::Busy) => Err(PortNo::Busy),
+            _ => Err(PortNo::Memory),
+        }
+    }
+
+    /// The next answer to a take of any sender.
+    fn next_taken(&mut self, motion: u32) -> Result<Parcel, PortNo>
+        ensures follows { Follows (next_reply self.old.left) (gave result) }
+        ensures left { self.new ≡ without_next self.old }
+        ensures refusals { IfErr result MayRefuseTake }
+        ensures from { IfOk result (λ parcel. HearsFrom self.old.keys motion parcel.from) }
+    {
+        let parcel = parcel_of(self.next())?;
+        if !self.hears_from(motion, parcel.from) {
+            return Err(PortNo::Memory);
+        }
+        Ok(parcel)
+    }
+
+    /// Notes a call and its reply.
+    fn note(&mut self, ask: PortAsk, reply: PortReply) -> Result<(), AllocError>
+        ensures ok { OnOk result (self.new ≡ noted ask reply self.old) }
+        ensures err { OnErr result (self.new ≡ self.old) }
+        ensures busy { OnOk result (CountsBusy self.old.busy self.new.busy reply) }
+    {
+        match reply {
+            PortReply::Refused(PortNo::Memory) => {}
+            PortReply::Refused(PortNo::Busy) => self.busy = self.busy.saturating_add(1),
+            reply => self.log.push(PortEntry { ask, reply })?,
+        }
+        Ok(())
+    }
+
+    /// Notes a call that gives no parcel, and gives its answer.
+    fn close_did(&mut self, ask: PortAsk, answer: Result<(), PortNo>) -> Result<(), PortNo>
+        ensures follows { Follows (did answer) (did result) }
+        ensures state { self.new ≡ noted ask (did result) self.old }
+        ensures busy { CountsBusy self.old.busy self.new.busy (did result) }
+    {
+        match &answer {
+            Ok(()) => self.note(ask, PortReply::Did)?,
+            Err(no) => self.note(ask, PortReply::Refused(*no))?,
+        }
+        answer
+    }
+
+    /// Notes a call that gives a parcel, and gives its answer.
+    fn close_gave(&mut self, ask: PortAsk, answer: Result<Parcel, PortNo>) -> Result<Parcel, PortNo>
+        ensures follows { Follows (gave answer) (gave result) }
+        ensures state { self.new ≡ noted ask (gave result) self.old }
+        ensures busy { CountsBusy self.old.busy self.new.busy (gave result) }
+    {
+        match answer {
+            Ok(parcel) => {
+                let entry = PortReply::Gave(shared(&parcel)?);
+                self.note(ask, entry)?;
+                Ok(parcel)
+            }
+            Err(no) => {
+                self.note(ask, PortReply::Refused(no))?;
+                Err(no)
+            }
+        }
+    }
+}
+
+/// Whether it is the sending end of this connection.
+fn is_sending(end: &ConnEnd, key: &ConnKey) -> bool
+    ensures { IsTrue result ↔ ((end.now.sending ≡ true) × (end.now.key ≡ key.now)) }
+{
+    end.sending && end.key == *key
+}
+
+/// Another owner of the same payload.
+fn shared(parcel: &Parcel) -> Result<Parcel, AllocError>
+    ensures { IfOk result (λ p. p ≡ parcel.now) }
+{
+    Ok(Parcel {
+        from: parcel.from,
+        payload: parcel.payload.share()?,
+        last: parcel.last,
+    })
+}
+
+/// The answer of a reply to a call that gives no parcel.
+fn done_of(reply: PortReply) -> Result<(), PortNo>
+    ensures { Follows reply (did result) }
+{
+    match &reply {
+        PortReply::Did => Ok(()),
+        PortReply::Refused(no) => Err(*no),
+        PortReply::Gave(_) => Err(PortNo::Memory),
+    }
+}
+
+/// The parcel of a reply to a take.
+fn parcel_of(reply: PortReply) -> Result<Parcel, PortNo>
+    ensures follows { Follows reply (gave result) }
+    ensures refusals { IfErr result MayRefuseTake }
+{
+    match reply {
+        PortReply::Gave(parcel) => Ok(parcel),
+        PortReply::Refused(PortNo::Empty) => Err(PortNo::Empty),
+        PortReply::Refused(PortNo::Ended) => Err(PortNo::Ended),
+        PortReply::Refused(PortNo::Busy) => Err(PortNo::Busy),
+        _ => Err(PortNo::Memory),
+    }
+}
+
+impl Port for ScriptPort {
+    ghost keys = { λ p. p.keys };
+
+    ghost log = { λ p. p.log };
+
+    ghost busy = { λ p. p.busy };
+
+    fn put(&mut self, alloc: Global, motion: u32, to: SegId, chunk: &[u8]) -> Result<(), PortNo>
+        ensures keys { self.new.keys ≡ self.old.keys }
+        ensures log { self.new.log ≡ logged (Put motion to chunk.now) (did result) self.old.log }
+        ensures busy { CountsBusy self.old.busy self.new.busy (did result) }
+        ensures refusals { IfErr result (MayRefusePut self.old.keys motion to) }
+        ensures follows { Follows (next_reply self.old.left) (did result) }
+        ensures state { self.new ≡ noted (Put motion to chunk.now) (did result) (without_next self.old) }
+    {
+        let answer = self.next_sent(motion, to);
+        let chunk = Bytes::from_slice(alloc, chunk)?;
+        self.close_did(PortAsk::Put { motion, to, chunk }, answer)
+    }
+
+    fn finish(&mut self, _alloc: Global, motion: u32, to: SegId) -> Result<(), PortNo>
+        ensures keys { self.new.keys ≡ self.old.keys }
+        ensures log { self.new.log ≡ logged (Finish motion to) (did result) self.old.log }
+        ensures busy { CountsBusy self.old.busy self.new.busy (did result) }
+        ensures refusals { IfErr result (MayRefusePut self.old.keys motion to) }
+        ensures follows { Follows (next_reply self.old.left) (did result) }
+        ensures state { self.new ≡ noted (Finish motion to) (did result) (without_next self.old) }
+    {
+        let answer = self.next_sent(motion, to);
+        self.close_did(PortAsk::Finish { motion, to }, answer)
+    }
+
+    fn take(&mut self, _alloc: Global, motion: u32) -> Result<Parcel, PortNo>
+        ensures keys { self.new.keys ≡ self.old.keys }
+        ensures log { self.new.log ≡ logged (Take motion) (gave result) self.old.log }
+        ensures busy { CountsBusy self.old.busy self.new.busy (gave result) }
+        ensures refusals { IfErr result MayRefuseTake }
+        ensures from { IfOk result (λ parcel. HearsFrom self.old.keys motion parcel.from) }
+        ensures follows { Follows (next_reply self.old.left) (gave result) }
+        ensures state { self.new ≡ noted (Take motion) (gave result) (without_next self.old) }
+    {
+        let answer = self.next_taken(motion);
+        self.close_gave(PortAsk::Take { motion }, answer)
+    }
+
+    fn take_from(&mut self, _alloc: Global, motion: u32, sender: SegId) -> Result<Parcel, PortNo>
+        ensures keys { self.new.keys ≡ self.old.keys }
+        ensures log { self.new.log ≡ logged (TakeFrom motion sender) (gave result) self.old.log }
+        ensures busy { CountsBusy self.old.busy self.new.busy (gave result) }
+        ensures refusals { IfErr result MayRefuseTake }
+        ensures from { IfOk result (λ parcel. parcel.from ≡ sender) }
+        ensures follows { Follows (next_reply self.old.left) (gave result) }
+        ensures state { self.new ≡ noted (TakeFrom motion sender) (gave result) (without_next self.old) }
+    {
+        let answer = only_from(sender, parcel_of(self.next()));
+        self.close_gave(PortAsk::TakeFrom { motion, sender }, answer)
+    }
+
+    fn halt(&mut self, _alloc: Global, motion: u32, sender: SegId) -> Result<(), PortNo>
+        ensures keys { self.new.keys ≡ self.old.keys }
+        ensures log { self.new.log ≡ logged (Halt motion sender) (did result) self.old.log }
+        ensures busy { CountsBusy self.old.busy self.new.busy (did result) }
+        ensures refusals { IfErr result MayRefuseHalt }
+        ensures follows { Follows (next_reply self.old.left) (did result) }
+        ensures state { self.new ≡ noted (Halt motion sender) (did result) (without_next self.old) }
+    {
+        let answer = self.next_halted();
+        self.close_did(PortAsk::Halt { motion, sender }, answer)
+    }
+}
+
+/// The parcel, where it is from this sender.
+fn only_from(sender: SegId, answer: Result<Parcel, PortNo>) -> Result<Parcel, PortNo>
+    ensures follows { Follows (gave answer) (gave result) }
+    ensures from { IfOk result (λ parcel. parcel.from ≡ sender) }
+{
+    let parcel = answer?;
+    if parcel.from != sender {
+        return Err(PortNo::Memory);
+    }
+    Ok(parcel)
+}

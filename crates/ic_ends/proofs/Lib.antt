@@ -1,0 +1,14 @@
+pub mod Telling
+pub mod Concerned
+pub mod Lives
+pub mod Nought
+pub mod Ticked
+pub mod Whole
+pub mod ConcernedPoints
+pub mod NoughtPoints
+pub mod TickPoints
+pub mod Ahead
+pub mod Forms
+pub mod Served
+pub mod Beside
+pub mod Spent
