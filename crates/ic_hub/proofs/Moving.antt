@@ -14,7 +14,7 @@ use Rattle.ic_law.specs.History.{emits, was_begun, leaves, left_by, left_of, tak
 use Rattle.ic_law.specs.Points.{Place, place_at, IsFormed, IsLive, IsHere}
 use Rattle.ic_law.specs.Asking.{IsAllowed}
 use Rattle.ic_law.specs.Arriving.{IsServed, LastServed, IsGreatestLeft, AnswersTakeAny}
-use Rattle.ic_law.specs.Emission.{last_tick, ticks_by, ticks_of, clock_of}
+use Rattle.ic_law.specs.Emission.{clock_of}
 use Rattle.ic_law.specs.Hub.{HubPoint}
 use Rattle.ic_law.specs.Receiving.{Receives}
 use Rattle.ic_places.specs.Ends.{motions_of}
@@ -24,7 +24,9 @@ use Rattle.ic_receiver.proofs.Others.{stands_silent}
 use Rattle.ic_sender.specs.Standing.{KeepsSending}
 use Rattle.ic_outgoing.specs.Outgoing.{OutgoingState, SameEnd}
 use Rattle.ic_outgoing.specs.Standing.{Stands as SenderStands}
-use Rattle.ic_outgoing.proofs.Steps.{others_pass}
+use Rattle.ic_sender.specs.Entries.{IsSilent}
+use Rattle.ic_sender.proofs.Beginning.{others_pass as sender_passes}
+use Rattle.ic_sender.proofs.Passing.{clock_stays, finished_stays}
 use Rattle.ic_ends.specs.Entries.{IsOurs, HasEnd, EndsKeep, AsksOf, OfPut, OfFinish, OfTakeFrom, OfHalt, OfTake, OfArrive, Concerns, IsNought}
 use Rattle.ic_ends.specs.Living.{BeginsNone, LivesOn}
 use Rattle.ic_ends.specs.Laws.{IsAbout, AboutEnd, AboutNone, Holds, Goes}
@@ -51,6 +53,16 @@ set_on (x ∷ xs) zero zero d b h = inl (refl, refl)
 set_on (x ∷ xs) zero (suc j) d b h = inr (λ e. absurd (omega (arith, e)), h)
 set_on (x ∷ xs) (suc i) zero d b h = inr (λ e. absurd (omega (arith, e)), h)
 set_on (x ∷ xs) (suc i) (suc j) d b h = elim (set_on xs i j d b h) [ inl w ↦ inl (ap suc w.0, w.1) | inr w ↦ inr (λ e. w.0 (omega (arith, e)), w.1) ]
+
+-- ---- an entry that doesn't concern it
+
+others_pass : (o : OutgoingState) (h : List Entry) (e : Entry) → IsSilent o.sending.end h e → SenderStands o h → SenderStands o (h ++ e ∷ [])
+others_pass o h e silent old =
+    record {
+      clock = clock_stays h e silent.still ∙ old.clock;
+      finished = finished_stays o.sending.end.key h e silent.nothing.finishes_none ∙ old.finished;
+      sends = sender_passes o.sending o.held h e silent old.sends;
+    }
 
 -- ---- places
 
@@ -122,13 +134,6 @@ ends_keep s new h e shaped place same stands all =
 pub top_same : (top : Option ℕ) (h now : List Entry) → left_of now ≡ left_of h → IsTop top h → IsTop top now
 top_same None h now left is = left ∙ is
 top_same (Some t) h now left is = record { bound = λ n c. is.bound n (subst (λ x. Contains x n) left c); here = subst (λ x. Contains x t) (sym left) is.here }
-
-ticks_push : (h : List Entry) (e : Entry) → ticks_of (h ++ e ∷ []) ≡ ticks_of h + ticks_by e.reply
-ticks_push [] e = omega arith
-ticks_push (x ∷ h) e = let w = ticks_push h e in omega (arith, w)
-
-pub clock_still : (h : List Entry) (e : Entry) → ticks_by e.reply ≡ 0 → clock_of (h ++ e ∷ []) ≡ clock_of h
-clock_still h e still = let w : ticks_of (h ++ e ∷ []) ≡ ticks_of h = (let p = ticks_push h e in omega (arith, p, still)) in ap (λ n. min last_tick n) w
 
 -- what a hub has with one more entry that begins and leaves no query
 pub record Adds (s new : Hubbing) (h : List Entry) (e : Entry) : Type 0 where
@@ -269,7 +274,7 @@ query_moved s h e q l m end shaped stands moves has about allowed formed takes =
           other_stands s h e end.key end.sending i x shaped stands w.1 apart about (λ motion from served. apart (served_here (place_in s) end.key end.sending e x.number motion from about.asks served)))
       ];
       top = refl;
-      clock = clock_still h e (still_then (place_in s) end.key end.sending e about) ∙ stands.clock;
+      clock = clock_stays h e (still_then (place_in s) end.key end.sending e about) ∙ stands.clock;
       lives = lives_on h e (begins_none (place_in s) end.key end.sending e about.asks) (leaves_none (place_in s) end.key end.sending e about.asks);
       about = AboutEnd end.key end.sending about (has_end s h q l end shaped stands moves.here has);
       point = λ keeps. concerned_point (place_in s) end.key end.sending h e about (has_end s h q l end shaped stands moves.here has)
@@ -295,7 +300,7 @@ abbrev pub with_receiver : Living → ℕ → Receiving → Living
 with_receiver l i r = record l { receivers = set l.receivers i r }
 
 -- a sender with its end, its settings and its tick keeps what is always true of its query
-pub sender_keeps : (place : Place) (tick : ℕ) (l : Living) (i : ℕ) (old new : OutgoingState) → IsLiving l → IsOfHub place tick l → slice_get l.senders i ≡ Some old → SameEnd old new → new.tick ≡ old.tick
+pub sender_keeps : (place : Place) (tick : ℕ) (l : Living) (i : ℕ) (old new : OutgoingState) → IsLiving l → IsOfHub place tick l → slice_get l.senders i ≡ Some old → SameEnd old new → new.now ≡ old.now
     → IsLiving (with_sender l i new) × IsOfHub place tick (with_sender l i new)
 sender_keeps place tick l i old new living of_hub here same tick_is =
     (record { senders = map_set (λ (o : OutgoingState). o.sending.end) l.senders i old new here same.end ∙ living.senders; receivers = living.receivers; served = living.served },
@@ -332,7 +337,7 @@ takes_none place c h e (OfArrive d asked packet directed) query motion w = let b
 
 -- the hub stands on where one sender does
 pub sender_moved : (s : Hubbing) (h : List Entry) (e : Entry) (q i : ℕ) (l : Living) (old new : OutgoingState) → Shaped s → Stands s h → slice_get s.live q ≡ Some l → slice_get l.senders i ≡ Some old
-    → SameEnd old new → new.tick ≡ old.tick → SenderStands new (h ++ e ∷ []) → Concerns (place_in s) old.sending.end.key true e
+    → SameEnd old new → new.now ≡ old.now → SenderStands new (h ++ e ∷ []) → Concerns (place_in s) old.sending.end.key true e
     → (e.reply ≢ Memory → IsAllowed (place_in s) h e.ask) → ((d : Datagram) → Contains (emits e) d → IsFormed (place_in s) d) → Stands (with_query s q (with_sender l i new)) (h ++ e ∷ [])
 sender_moved s h e q i l old new shaped stands here at same tick moved about allowed formed =
     let living = shaped.living q l here in
@@ -443,7 +448,7 @@ nought_stands s h e shaped stands about begins left allowed formed =
       same = same_queries s.live;
       stand = λ i l here. nought_living s h e i l shaped stands here about;
       top = refl;
-      clock = clock_still h e (quiet (place_in s) h e about).still ∙ stands.clock;
+      clock = clock_stays h e (quiet (place_in s) h e about).still ∙ stands.clock;
       lives = lives_on h e begins left;
       about = AboutNone about;
       point = λ keeps. nought_point (place_in s) h e about (record { law = stands.goes.law; keeps = keeps; allowed = allowed; formed = formed });

@@ -128,7 +128,7 @@ in_order {A = A} test (x ∷ xs) i j a b less h k = by (test x) refl i j less h 
     by true e (suc m) (suc n) l at bt = more m n (omega (arith, l)) at bt
     by false e m n l at bt = more m n l at bt
 
-apart_or_same : (m n : ℕ) → (m < n) ⊎ ((n < m) ⊎ (m ≡ n))
+pub apart_or_same : (m n : ℕ) → (m < n) ⊎ ((n < m) ⊎ (m ≡ n))
 apart_or_same zero zero = inr (inr refl)
 apart_or_same zero (suc n) = inl (omega arith)
 apart_or_same (suc m) zero = inr (inl (omega arith))

@@ -1,5 +1,6 @@
 -- What each call does to a hub, and to a live query.
-use Rattle.std.specs.Prelude.{◌≡◌, ℕ, ◌+◌, ◌-◌, ◌^◌, ◌≤◌, min, ℤ, List, [], ◌∷◌, true, false, Option, Some, None, Result, Ok, Err, slice_get, slice_set}
+use Rattle.std.specs.Prelude.{◌≡◌, ℕ, ◌+◌, ◌-◌, ◌^◌, ◌≤◌, min, ℤ, List, [], ◌∷◌, true, false, Option, Some, None, Result, Ok, Err, slice_get, slice_set, IfOk, OnErr}
+use Rattle.std.specs.List.{AllByRecursion}
 use Rattle.ic_base.specs.declared.keys.ConnKey.{ConnKey}
 use Rattle.ic_base.specs.declared.datagram.Datagram.{Datagram}
 use Rattle.ic_base.specs.declared.datagram.Parcel.{Parcel}
@@ -67,5 +68,18 @@ pub record MovesSender (place : ℕ) (Is : ConnKey → Entry → Type 0) (l afte
   pub here : slice_get l.senders place ≡ Some old
   pub is : after ≡ record l { senders = slice_set l.senders place new }
   pub end : SameEnd old new
-  pub tick : new.tick ≡ old.tick
+  pub now : new.now ≡ old.now
   pub stands : StandsNext old new (Is old.sending.end.key)
+
+-- ---- puts
+
+-- a chunk of this length fits in a packet of each sender
+abbrev pub FitsAll : Living → ℕ → Type 0
+FitsAll l length = AllByRecursion (λ (o : OutgoingState). length + 68 ≤ o.sending.settings.packet) l.senders
+
+-- What a put on the sender at this place, or its finish, does: behind the end of stream nothing; else what the connection
+-- does, and where it refuses nothing. What it emits has the form of its packets.
+pub data PutsOn (place : ℕ) (Is : ConnKey → Result (List Datagram) SendNo → Entry → Type 0) (l after : Living) (result : Result (List Datagram) HubNo) : Type 0 where
+  Behind : (old : OutgoingState) → slice_get l.senders place ≡ Some old → old.sending.finished ≡ true → result ≡ Err no.Memory → after ≡ l → PutsOn place Is l after result
+  Answered : (answer : Result (List Datagram) SendNo) → result ≡ put_answer answer → (moves : MovesSender place (λ c e. Is c answer e) l after)
+      → moves.old.sending.finished ≡ false → OnErr answer (moves.new ≡ moves.old) → IfOk answer (AreOutgoing moves.old.sending) → PutsOn place Is l after result

@@ -61,7 +61,7 @@ pub record IsOfHub (place : Place) (tick : ℕ) (l : Living) : Type 0 where
   pub ends : AreEnds place l.number l.ends
   pub ours : AllByRecursion (IsOurs place) l.ends
   pub settings : AllByRecursion (λ (o : OutgoingState). o.sending.settings ≡ place.settings) l.senders
-  pub tick_is : AllByRecursion (λ (o : OutgoingState). o.tick ≡ tick) l.senders
+  pub tick_is : AllByRecursion (λ (o : OutgoingState). o.now ≡ tick) l.senders
 
 -- the keys of a live query, if it is one
 abbrev pub keys_in : List Living → ℕ → Option (List ConnKey)

@@ -6,7 +6,7 @@ ghost use Rattle.ic_law.specs.Asking.{AreEnds};
 ghost use Rattle.ic_hub.specs.Hubbing.{place_in};
 ghost use Rattle.ic_hub.specs.Entries.{begin_entry};
 ghost use Rattle.ic_hub.specs.Standing.{Stands};
-ghost use Rattle.ic_hub.specs.Calls.{SamePlace, IsBegun};
+ghost use Rattle.ic_hub.specs.Calls.{SamePlace};
 
 use crate::hub::Hub;
 use crate::query::Query;
@@ -66,7 +66,6 @@ impl Query {
         tick: u64,
     ) -> Result<Query, AllocError>
         requires checked { AreChecked settings.now }
-        ensures { IfOk result (λ l. IsBegun number ends.now settings.now tick l) }
     {
         let places = Places::new(alloc, ends)?;
         let served = unserved(alloc, places.motions())?;

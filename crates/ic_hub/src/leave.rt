@@ -3,7 +3,7 @@ ghost use Rattle.std.specs.Prelude.{◌≡◌, ◌++◌, [], ◌∷◌, List, On
 ghost use Rattle.ic_law.specs.declared.history.Entry.{Entry};
 ghost use Rattle.ic_hub.specs.Entries.{clear_entry, leave_entry};
 ghost use Rattle.ic_hub.specs.Standing.{Stands};
-ghost use Rattle.ic_hub.specs.Calls.{SamePlace, IsLiveIn, IsUnclear};
+ghost use Rattle.ic_hub.specs.Calls.{SamePlace, IsLiveIn};
 
 use crate::hub::Hub;
 use crate::query::Query;
@@ -22,7 +22,6 @@ impl Query {
 
     /// The first end whose connection isn't over.
     fn first_unclear(&self) -> Option<ConnKey>
-        ensures { IsUnclear self.now result }
     {
         let ends = self.places.ends();
         for (place, slot) in self.places.order().iter().enumerate() {

