@@ -1,3 +1,5 @@
 pub mod Places
 pub mod Shape
+pub mod Found
+pub mod Finds
 pub mod Moving
