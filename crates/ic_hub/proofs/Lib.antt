@@ -3,3 +3,4 @@ pub mod Shape
 pub mod Found
 pub mod Finds
 pub mod Moving
+pub mod Putting

@@ -7,13 +7,15 @@ use Rattle.ic_base.specs.declared.keys.ConnEnd.{ConnEnd}
 use Rattle.ic_base.specs.declared.settings.Settings.{Settings}
 use Rattle.ic_base.specs.declared.datagram.Datagram.{Datagram}
 use Rattle.ic_base.specs.declared.datagram.Parcel.{Parcel}
-use Rattle.ic_law.specs.declared.history.HubAsk.TheVariants.{Begin, Put, Finish, Take, TakeFrom, Halt, Arrive, Leave}
+use Rattle.ic_law.specs.declared.history.HubAsk.TheVariants.{Begin, Put, Finish, Take, TakeFrom, Halt, Arrive, Clear, Leave}
 use Rattle.ic_law.specs.declared.history.HubReply.TheVariants.{Took, Memory}
 use Rattle.ic_law.specs.declared.history.Entry.{Entry}
 use Rattle.ic_law.specs.History.{emits, was_begun, leaves, left_by, left_of, takes, parcel_for, parcels_from}
 use Rattle.ic_law.specs.Points.{Place, place_at, IsFormed, IsLive, IsHere}
 use Rattle.ic_law.specs.Asking.{IsAllowed}
-use Rattle.ic_law.specs.Arriving.{IsServed, LastServed, IsGreatestLeft, AnswersTakeAny}
+use Rattle.ic_law.specs.declared.history.HubAsk.{HubAsk}
+use Rattle.ic_law.proofs.Lists.{Contains-none}
+use Rattle.ic_law.specs.Arriving.{IsUnknownKey, IsServed, LastServed, IsGreatestLeft, AnswersTakeAny}
 use Rattle.ic_law.specs.Emission.{clock_of}
 use Rattle.ic_law.specs.Hub.{HubPoint}
 use Rattle.ic_law.specs.Receiving.{Receives}
@@ -27,7 +29,7 @@ use Rattle.ic_outgoing.specs.Standing.{Stands as SenderStands}
 use Rattle.ic_sender.specs.Entries.{IsSilent}
 use Rattle.ic_sender.proofs.Beginning.{others_pass as sender_passes}
 use Rattle.ic_sender.proofs.Passing.{clock_stays, finished_stays}
-use Rattle.ic_ends.specs.Entries.{IsOurs, HasEnd, EndsKeep, AsksOf, OfPut, OfFinish, OfTakeFrom, OfHalt, OfTake, OfArrive, Concerns, IsNought}
+use Rattle.ic_ends.specs.Entries.{IsOurs, HasEnd, EndsKeep, AsksOf, OfPut, OfFinish, OfTakeFrom, OfHalt, OfTake, OfArrive, Concerns, IsNought, NoMemory}
 use Rattle.ic_ends.specs.Living.{BeginsNone, LivesOn}
 use Rattle.ic_ends.specs.Laws.{IsAbout, AboutEnd, AboutNone, Holds, Goes}
 use Rattle.ic_ends.proofs.Concerned.{still_then, concerned_passes}
@@ -42,6 +44,7 @@ use Rattle.ic_ends.proofs.Beside.{set_cases}
 use Rattle.ic_hub.specs.Hubbing.{Hubbing, Living, IsLiving, IsOfHub, place_in}
 use Rattle.ic_hub.specs.Standing.{LivingStands, IsTop, IsAmong, Stands}
 use Rattle.ic_hub.specs.Calls.{SamePlace}
+use Rattle.ic_hub.specs.Finding.{HasNo}
 use Rattle.ic_hub.proofs.Places.{Shaped, SenderOf, ReceiverOf, sender_of, receiver_of, end_of_sender, end_of_receiver, number_of, one_sender, one_receiver, all_at, contains_at}
 
 -- ---- lists
@@ -299,11 +302,20 @@ with_sender l i o = record l { senders = set l.senders i o }
 abbrev pub with_receiver : Living → ℕ → Receiving → Living
 with_receiver l i r = record l { receivers = set l.receivers i r }
 
+-- a sender of the same end keeps the query whole
+pub sender_living : (l : Living) (i : ℕ) (old new : OutgoingState) → IsLiving l → slice_get l.senders i ≡ Some old → new.sending.end ≡ old.sending.end → IsLiving (with_sender l i new)
+sender_living l i old new living here same =
+    record { senders = map_set (λ (o : OutgoingState). o.sending.end) l.senders i old new here same ∙ living.senders; receivers = living.receivers; served = living.served }
+
+pub receiver_living : (l : Living) (i : ℕ) (old new : Receiving) → IsLiving l → slice_get l.receivers i ≡ Some old → new.end ≡ old.end → IsLiving (with_receiver l i new)
+receiver_living l i old new living here same =
+    record { senders = living.senders; receivers = map_set (λ (r : Receiving). r.end) l.receivers i old new here same ∙ living.receivers; served = living.served }
+
 -- a sender with its end, its settings and its tick keeps what is always true of its query
 pub sender_keeps : (place : Place) (tick : ℕ) (l : Living) (i : ℕ) (old new : OutgoingState) → IsLiving l → IsOfHub place tick l → slice_get l.senders i ≡ Some old → SameEnd old new → new.now ≡ old.now
     → IsLiving (with_sender l i new) × IsOfHub place tick (with_sender l i new)
 sender_keeps place tick l i old new living of_hub here same tick_is =
-    let keeps : IsLiving (with_sender l i new) = record { senders = map_set (λ (o : OutgoingState). o.sending.end) l.senders i old new here same.end ∙ living.senders; receivers = living.receivers; served = living.served } in
+    let keeps = sender_living l i old new living here same.end in
     (keeps, record {
       living = keeps;
       ends = of_hub.ends;
@@ -315,7 +327,7 @@ sender_keeps place tick l i old new living of_hub here same tick_is =
 pub receiver_keeps : (place : Place) (tick : ℕ) (l : Living) (i : ℕ) (old new : Receiving) → IsLiving l → IsOfHub place tick l → slice_get l.receivers i ≡ Some old → new.end ≡ old.end
     → IsLiving (with_receiver l i new) × IsOfHub place tick (with_receiver l i new)
 receiver_keeps place tick l i old new living of_hub here same =
-    let keeps : IsLiving (with_receiver l i new) = record { senders = living.senders; receivers = map_set (λ (r : Receiving). r.end) l.receivers i old new here same ∙ living.receivers; served = living.served } in
+    let keeps = receiver_living l i old new living here same in
     (keeps, record { living = keeps; ends = of_hub.ends; ours = of_hub.ours; settings = of_hub.settings; tick_is = of_hub.tick_is })
 
 -- no sender is served by what a sending end is asked
@@ -454,3 +466,22 @@ nought_stands s h e shaped stands about begins left allowed formed =
       about = AboutNone about;
       point = λ keeps. nought_point (place_in s) h e about (record { law = stands.goes.law; keeps = keeps; allowed = allowed; formed = formed });
     })
+
+-- ---- where an end isn't
+
+-- where no live query has an end of this key and side, none is here
+pub unknown_key : (side : Bool) (s : Hubbing) (key : ConnKey) (h : List Entry) → HasNo side s key → Stands s h → IsUnknownKey side key h
+unknown_key side s key h none stands end here same sending =
+    let a = (stands.live end.key.query here.ends).0 here.live in
+    none a.at a.living a.here end (subst (λ x. Contains x end) (sym a.ends_are) here.stands) same sending
+
+-- what stands at a place, put there again, leaves the list as it is
+pub set_same : {A : Type 0} (xs : List A) (i : ℕ) (x : A) → slice_get xs i ≡ Some x → set xs i x ≡ xs
+set_same [] i x h = refl
+set_same (y ∷ ys) zero x h = let same : y ≡ x = cc in ap (λ z. z ∷ ys) (sym same)
+set_same (y ∷ ys) (suc i) x h = ap (λ zs. y ∷ zs) (set_same ys i x h)
+
+-- want of memory leaves the hub standing as it is, whatever was asked but whether a query is clear
+pub memory_stands : (s : Hubbing) (h : List Entry) (ask : HubAsk) → Shaped s → Stands s h → ((query : ℕ) → ask ≢ Clear query) → leaves (record { ask = ask; reply = Memory }) ≡ [] → Stands s (h ++ record { ask = ask; reply = Memory } ∷ [])
+memory_stands s h ask shaped stands asks left =
+    nought_stands s h (record { ask = ask; reply = Memory }) shaped stands (NoMemory asks refl) (λ query ends asked begun. let bad : false ≡ true = begun in cc) left (λ given. absurd (given refl)) (λ d c. absurd (Contains-none d c))
