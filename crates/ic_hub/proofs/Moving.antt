@@ -1,7 +1,7 @@
 -- A hub stands on with an entry about one end, where that end's connection does.
 use Rattle.std.proofs.Common.{◌≡◌, ◌≢◌, ◌↔◌, ℕ, zero, suc, ◌+◌, ℤ, List, [], ◌∷◌, ◌++◌, set, map, Bool, true, false, ◌==◌, Option, Some, None, Result, Ok, refl, ap, sym, ◌∙◌, subst, arith, inl, inr, ◌⊎◌, slice_get, min, cond, ◌&&◌, length}
 use Rattle.std.specs.List.{AllByRecursion, Contains}
-use Rattle.std.proofs.lemmas.Bool.Decides.{Decides-int_eq}
+use Rattle.std.proofs.lemmas.Bool.Decides.{Decides-eqb, Decides-int_eq}
 use Rattle.ic_base.specs.declared.keys.ConnKey.{ConnKey}
 use Rattle.ic_base.specs.declared.keys.ConnEnd.{ConnEnd}
 use Rattle.ic_base.specs.declared.settings.Settings.{Settings}
@@ -240,13 +240,13 @@ other_stands s h e c side i x shaped stands here apart about unserved =
     record {
       senders = λ k o at.
         let end = end_of_sender x k o (shaped.living i x here) at in
-        let other = λ same. λ (b : side ≡ true). apart (number_of s i x o.sending.end shaped here end.has ∙ ap (λ (y : ConnKey). y.query) same) in
+        let other : o.sending.end.key ≡ c → side ≡ true → ⊥ = λ same b. apart (number_of s i x o.sending.end shaped here end.has ∙ ap (λ (y : ConnKey). y.query) same) in
         others_pass o h e ((concerned_passes (place_in s) c side h e o.sending.end about).0 other).silent (was.senders k o at);
       receivers = λ k r at.
         let end = end_of_receiver x k r (shaped.living i x here) at in
         let place = contains_at x.ends r.end end.has in
         let ours = all_at (IsOurs (place_in s)) x.ends place.0 r.end (shaped.of_hub i x here).ours place.1 in
-        let other = λ same. λ (b : side ≡ false). apart (number_of s i x r.end shaped here end.has ∙ ap (λ (y : ConnKey). y.query) same) in
+        let other : r.end.key ≡ c → side ≡ false → ⊥ = λ same b. apart (number_of s i x r.end shaped here end.has ∙ ap (λ (y : ConnKey). y.query) same) in
         stands_silent s.settings r h e ((concerned_passes (place_in s) c side h e r.end about).1 other ours.session (ours.receives_here end.side_is)) (was.receivers k r at);
       served = λ k motion last m at. served_before x.number motion h e last (unserved motion) (was.served k motion last m at);
     }
@@ -368,14 +368,14 @@ sender_moved s h e q i l old new shaped stands here at same tick moved about all
         senders = λ k o found. elim (set_cases l.senders i k new o found) [
           | inl w ↦ subst (λ x. SenderStands x (h ++ e ∷ [])) (sym w.1) moved
           | inr w ↦ (
-            let other = λ key. λ (b : true ≡ true). w.0 (sym ((one_sender s q q k i l l o old shaped here here w.1 at key).place)) in
+            let other : o.sending.end.key ≡ old.sending.end.key → true ≡ true → ⊥ = λ key b. w.0 (sym ((one_sender s q q k i l l o old shaped here here w.1 at key).place)) in
             others_pass o h e ((concerned_passes (place_in s) old.sending.end.key true h e o.sending.end about).0 other).silent (was.senders k o w.1))
         ];
         receivers = λ k r found.
           let its = end_of_receiver l k r living found in
           let place = contains_at l.ends r.end its.has in
           let ours = all_at (IsOurs (place_in s)) l.ends place.0 r.end (shaped.of_hub q l here).ours place.1 in
-          let other = λ key. λ (b : true ≡ false). let bad : true ≡ false = b in cc in
+          let other : r.end.key ≡ old.sending.end.key → true ≡ false → ⊥ = λ key b. let bad : true ≡ false = b in cc in
           stands_silent s.settings r h e ((concerned_passes (place_in s) old.sending.end.key true h e r.end about).1 other ours.session (ours.receives_here its.side_is)) (was.receivers k r found);
         served = λ k motion last m found. served_before l.number motion h e last (λ from served. unserved (place_in s) old.sending.end.key e about.asks l.number motion from served) (was.served k motion last m found);
       };
@@ -401,7 +401,7 @@ receiver_moved s h e q i l old new served shaped stands here at same count moved
       of_hub = record { living = record { senders = keeps.0.senders; receivers = keeps.0.receivers; served = count ∙ living.served }; ends = keeps.1.ends; ours = keeps.1.ours; settings = keeps.1.settings; tick_is = keeps.1.tick_is };
       stands = record {
         senders = λ k o found.
-          let other = λ key. λ (b : false ≡ true). let bad : false ≡ true = b in cc in
+          let other : o.sending.end.key ≡ old.end.key → false ≡ true → ⊥ = λ key b. let bad : false ≡ true = b in cc in
           others_pass o h e ((concerned_passes (place_in s) old.end.key false h e o.sending.end about).0 other).silent (was.senders k o found);
         receivers = λ k r found. elim (set_cases l.receivers i k new r found) [
           | inl w ↦ subst (λ x. ReceiverStands s.settings x (h ++ e ∷ [])) (sym w.1) moved
@@ -409,7 +409,7 @@ receiver_moved s h e q i l old new served shaped stands here at same count moved
             let its = end_of_receiver l k r living w.1 in
             let place = contains_at l.ends r.end its.has in
             let ours = all_at (IsOurs (place_in s)) l.ends place.0 r.end (shaped.of_hub q l here).ours place.1 in
-            let other = λ key. λ (b : false ≡ false). w.0 (sym ((one_receiver s q q k i l l r old shaped here here w.1 at key).place)) in
+            let other : r.end.key ≡ old.end.key → false ≡ false → ⊥ = λ key b. w.0 (sym ((one_receiver s q q k i l l r old shaped here here w.1 at key).place)) in
             stands_silent s.settings r h e ((concerned_passes (place_in s) old.end.key false h e r.end about).1 other ours.session (ours.receives_here its.side_is)) (was.receivers k r w.1))
         ];
         served = serves;
@@ -423,8 +423,8 @@ takes_one : (e : Entry) (query motion : ℕ) (from : ℤ) → IsServed query mot
 takes_one e query motion from served none =
     let c : ConnKey = record { session = 0; query = query; motion = motion; from = from; to = from } in
     let is : takes c e ≡ parcel_for c (Take query motion) (Took (Ok (served.parcel, served.ds))) = ap (λ a. parcel_for c a e.reply) served.ask ∙ ap (λ r. parcel_for c (Take query motion) r) served.reply in
-    let one = ap (λ b. cond (b && (motion == motion)) (parcels_from from (served.parcel ∷ [])) []) (eqb-refl query)
-        ∙ ap (λ b. cond b (parcels_from from (served.parcel ∷ [])) []) (eqb-refl motion)
+    let one = ap (λ b. cond (b && (motion == motion)) (parcels_from from (served.parcel ∷ [])) []) ((Decides-eqb query query).1 refl)
+        ∙ ap (λ b. cond b (parcels_from from (served.parcel ∷ [])) []) ((Decides-eqb motion motion).1 refl)
         ∙ ap (λ b. cond b (served.parcel ∷ []) []) ((Decides-int_eq served.parcel.from from).1 (sym served.sender)) in
     let bad : served.parcel ∷ [] ≡ [] = sym one ∙ sym is ∙ none in
     cc

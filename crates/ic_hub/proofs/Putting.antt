@@ -14,7 +14,8 @@ use Rattle.ic_law.specs.declared.history.HubNo.{HubNo}
 use Rattle.ic_law.specs.declared.history.HubNo.TheVariants as no
 use Rattle.ic_law.specs.declared.history.Entry.{Entry}
 use Rattle.ic_law.specs.History.{datagrams_of, emits, leaves, finished_of}
-use Rattle.ic_law.specs.Points.{Place, IsFormed}
+use Rattle.ic_law.specs.Packets.{key_of, IsSegment}
+use Rattle.ic_law.specs.Points.{Place, IsDirected, IsFormed}
 use Rattle.ic_law.specs.Asking.{IsPuttable, IsAllowed, GoesOn}
 use Rattle.ic_law.specs.Arriving.{unknown}
 use Rattle.ic_law.specs.Hub.{IsReplyTo}
@@ -27,7 +28,6 @@ use Rattle.ic_sender.specs.Entries.{gave_of as gave}
 use Rattle.ic_outgoing.specs.Outgoing.{OutgoingState, SameEnd}
 use Rattle.ic_outgoing.specs.Emitted.{IsOutgoingOf, AreOutgoing}
 use Rattle.ic_outgoing.specs.Standing.{Stands as SenderStands, StandsNext}
-use Rattle.ic_outgoing.proofs.laws.are_formed.Answers.{returns as are_formed_law}
 use Rattle.ic_ends.specs.Entries.{IsPacketOf, IsOurs, AsksOf, OfPut, OfFinish, Concerns, UnknownPut, UnknownFinish}
 use Rattle.ic_hub.specs.Hubbing.{Hubbing, Living, IsLiving, IsOfHub, place_in}
 use Rattle.ic_hub.specs.Entries.{gave_of, put_entry, finish_entry}
@@ -40,6 +40,9 @@ use Rattle.ic_hub.proofs.Moving.{with_query, with_sender, sender_moved, nought_s
 -- what is read at a place stands there
 pub at_index : {A : Type 0} (xs : List A) (i : ℕ) (x : A) → i < length xs → x ≡ get_or xs i x → slice_get xs i ≡ Some x
 at_index xs i x less is = slice_get-get_or xs i x less ∙ ap Some (sym is)
+
+abbrev pub set_in : Living → ℕ → OutgoingState → Living
+set_in l i o = record l { senders = set l.senders i o }
 
 -- ---- replies
 
@@ -82,6 +85,19 @@ gave_emits s (Err send.Memory) are d c = absurd (Contains-none d c)
 
 pub packet_of_it : (end : ConnEnd) (packet : ℕ) (d : Datagram) → IsOutgoingOf end packet d → IsPacketOf end.key true d
 packet_of_it end packet d is = record { packet = record { head = is.head; body = is.body }; reads = is.reads; key = is.key; way = is.forth }
+
+-- and has the form of what a hub there may emit
+pub are_formed : (place : Place) (end : ConnEnd) (packet : ℕ) (d : Datagram) → end.key.session ≡ place.session → end.key.from ≡ place.at → IsOutgoingOf end packet d → IsFormed place d
+are_formed place end packet d session at is =
+    record {
+      packet = record { head = is.head; body = is.body };
+      spelled = is.spelled;
+      session = ap (λ (k : ConnKey). k.session) is.key ∙ session;
+      src_content = subst IsSegment (sym (ap (λ (k : ConnKey). k.from) is.key)) is.from_is;
+      dst_content = subst IsSegment (sym (ap (λ (k : ConnKey). k.to) is.key)) is.to_is;
+      from = is.from ∙ at;
+      ends = subst (λ (b : Bool). IsDirected b d (key_of is.head)) (sym is.forth) (is.from ∙ sym (ap (λ (k : ConnKey). k.from) is.key), is.to ∙ sym (ap (λ (k : ConnKey). k.to) is.key));
+    }
 
 -- ---- one connection moves
 
