@@ -6,6 +6,7 @@ use Rattle.std.proofs.lemmas.Option.{slice_get-get_or}
 use Rattle.ic_base.specs.declared.keys.ConnKey.{ConnKey}
 use Rattle.ic_base.specs.declared.keys.ConnEnd.{ConnEnd}
 use Rattle.ic_base.specs.declared.datagram.Datagram.{Datagram}
+use Rattle.ic_base.specs.declared.settings.Settings.{Settings}
 use Rattle.ic_law.specs.declared.history.HubAsk.{HubAsk}
 use Rattle.ic_law.specs.declared.history.HubAsk.TheVariants.{Begin, Put, Finish, Clear, Leave}
 use Rattle.ic_law.specs.declared.history.HubReply.{HubReply}
@@ -33,7 +34,7 @@ use Rattle.ic_hub.specs.Hubbing.{Hubbing, Living, IsLiving, IsOfHub, place_in}
 use Rattle.ic_hub.specs.Entries.{gave_of, put_entry, finish_entry}
 use Rattle.ic_hub.specs.Finding.{HasNo, SenderIs}
 use Rattle.ic_hub.specs.Standing.{LivingStands, Stands}
-use Rattle.ic_hub.specs.Calls.{put_answer, put_no, MovesSender, PutsOn, Behind, Answered}
+use Rattle.ic_hub.specs.Calls.{put_answer, put_no, FitsAll, MovesSender, PutsOn, Behind, Answered}
 use Rattle.ic_hub.proofs.Places.{Shaped, all_at, contains_at, end_of_sender}
 use Rattle.ic_hub.proofs.Moving.{with_query, with_sender, sender_moved, nought_stands, memory_stands, unknown_key, set_same}
 
@@ -43,6 +44,10 @@ at_index xs i x less is = slice_get-get_or xs i x less ∙ ap Some (sym is)
 
 abbrev pub set_in : Living → ℕ → OutgoingState → Living
 set_in l i o = record l { senders = set l.senders i o }
+
+-- behind the end of stream nothing is put
+pub behind : (place : ℕ) (Is : ConnKey → Result (List Datagram) SendNo → Entry → Type 0) (l : Living) (old : OutgoingState) → slice_get l.senders place ≡ Some old → old.sending.finished ≡ true → PutsOn place Is l l (Err no.Memory)
+behind place Is l old here finished = Behind old here finished refl refl
 
 -- ---- replies
 
@@ -180,3 +185,17 @@ finish_stands s h key q i l after result shaped stands found here (Answered answ
     (λ given. goes_on h old was unfinished) in
     let entry : e ≡ finish_entry key result = ap (λ k. record { ask = Finish k; reply = gave answer }) key_is ∙ ap (λ r. record { ask = Finish key; reply = r }) (sym (gave_is answer) ∙ ap gave_of (sym is)) in
     subst (λ x. Stands x (h ++ finish_entry key result ∷ [])) (ap (λ m. with_query s q m) (sym moves.is)) (subst (λ x. Stands (with_query s q (with_sender l i moves.new)) (h ++ x ∷ [])) entry done)
+
+-- ---- the hub's own
+
+-- a chunk has a header of 4 bytes
+pub chunk_least : (place : Place) (chunk : List ℕ) → IsPuttable place chunk → 4 ≤ length chunk
+chunk_least place chunk puttable = ?
+
+-- it fits in a packet of each sender
+pub fits_all : (place : Place) (tick : ℕ) (l : Living) (chunk : List ℕ) → IsOfHub place tick l → IsPuttable place chunk → FitsAll l (length chunk)
+fits_all place tick l chunk of_hub puttable = go l.senders of_hub.settings
+  where
+    go : (os : List OutgoingState) → AllByRecursion (λ (o : OutgoingState). o.sending.settings ≡ place.settings) os → AllByRecursion (λ (o : OutgoingState). length chunk + 68 ≤ o.sending.settings.packet) os
+    go [] all = tt
+    go (o ∷ os) all = (subst (λ (x : Settings). length chunk + 68 ≤ x.packet) (sym all.0) puttable.room, go os all.1)
