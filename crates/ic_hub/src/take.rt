@@ -1,5 +1,7 @@
 // Parcels that the slice takes, and connections that it halts.
 ghost use Rattle.std.specs.Prelude.{◌≡◌, ◌<◌, ◌++◌, [], ◌∷◌, length, vec_len, vec_capacity, List, OnErr};
+ghost use Rattle.ic_receiver.specs.Entries.{list_of};
+ghost use Rattle.ic_hub.specs.Taking.{AreLiving, Takes, HaltsOne, TakesAt, HaltsAt};
 ghost use Rattle.ic_law.specs.declared.history.Entry.{Entry};
 ghost use Rattle.ic_places.specs.Ends.{motions_of};
 ghost use Rattle.ic_hub.specs.Entries.{take_entry, take_from_entry, halt_entry};
@@ -66,10 +68,50 @@ pub(crate) fn listed(room: Vec<Datagram>, datagram: Datagram) -> Datagrams
 }
 
 /// Nothing, or one datagram in a list that has room for it.
-pub(crate) fn listed_or_none(room: Vec<Datagram>, datagram: Option<Datagram>) -> Datagrams {
+pub(crate) fn listed_or_none(room: Vec<Datagram>, datagram: Option<Datagram>) -> Datagrams
+    requires none { vec_len room ≡ 0 }
+    requires room { 0 < vec_capacity room }
+    ensures { result ≡ list_of datagram }
+{
     match datagram {
         Some(datagram) => listed(room, datagram),
         None => Datagrams::from_vec(room),
+    }
+}
+
+/// Looks at each of them. Its clause: what is always true of live queries.
+pub(crate) fn living(live: &[Query])
+    ensures { AreLiving live.now }
+{
+    for query in live {
+        let _number = query.number;
+    }
+}
+
+/// The next parcel of a receiver, with the datagram that tells its sender of the new room. The room for the list of that
+/// one is taken before anything changes.
+fn take_one(alloc: Global, receiver: &mut Receiver) -> Result<(Parcel, Datagrams), HubNo>
+    ensures { Takes receiver.old receiver.new result }
+{
+    let Ok(room) = Vec::with_capacity(alloc, 1) else {
+        return Err(HubNo::Memory);
+    };
+    match receiver.take(alloc) {
+        Ok((parcel, told)) => Ok((parcel, listed(room, told))),
+        Err(no) => Err(take_no(no)),
+    }
+}
+
+/// Halts a receiver. The room for the list of the datagram is taken before anything changes.
+fn halt_one(alloc: Global, receiver: &mut Receiver) -> Result<Datagrams, HubNo>
+    ensures { HaltsOne receiver.old receiver.new result }
+{
+    let Ok(room) = Vec::with_capacity(alloc, 1) else {
+        return Err(HubNo::Memory);
+    };
+    match receiver.halt(alloc) {
+        Ok(told) => Ok(listed_or_none(room, told)),
+        Err(_) => Err(HubNo::Memory),
     }
 }
 
@@ -80,12 +122,9 @@ impl Query {
         place: usize,
     ) -> Result<(Parcel, Datagrams), HubNo>
         requires here { place < length self.old.receivers }
+        ensures { TakesAt place self.old self.new result }
     {
-        let Ok(room) = Vec::with_capacity(alloc, 1) else {
-            return Err(HubNo::Memory);
-        };
-        let (parcel, told) = self.receivers[place].take(alloc).map_err(take_no)?;
-        Ok((parcel, listed(room, told)))
+        take_one(alloc, &mut self.receivers[place])
     }
 
     /// A take of any sender of the motion at this place.
@@ -110,14 +149,9 @@ impl Query {
 
     fn halt(&mut self, alloc: Global, place: usize) -> Result<Datagrams, HubNo>
         requires here { place < length self.old.receivers }
+        ensures { HaltsAt place self.old self.new result }
     {
-        let Ok(room) = Vec::with_capacity(alloc, 1) else {
-            return Err(HubNo::Memory);
-        };
-        match self.receivers[place].halt(alloc) {
-            Ok(told) => Ok(listed_or_none(room, told)),
-            Err(_) => Err(HubNo::Memory),
-        }
+        halt_one(alloc, &mut self.receivers[place])
     }
 }
 
