@@ -99,12 +99,12 @@ one_replaced live q l m here number ends =
 pub among_on : (live new : List Living) (query : ℕ) (ends : List ConnEnd) → SameQueries live new → IsAmong live query ends → IsAmong new query ends
 among_on live new query ends same a =
     let w = same.on a.at a.living a.here in
-    record { at = a.at; living = w.0; here = w.1.0; number = w.1.1.0 ∙ a.number; ends_are = w.1.1.1 ∙ a.ends_are }
+    record { at = a.at; living = w.0; here = w.1; number = w.2 ∙ a.number; ends_are = w.3 ∙ a.ends_are }
 
 pub among_back : (live new : List Living) (query : ℕ) (ends : List ConnEnd) → SameQueries live new → IsAmong new query ends → IsAmong live query ends
 among_back live new query ends same a =
     let w = same.back a.at a.living a.here in
-    record { at = a.at; living = w.0; here = w.1.0; number = sym w.1.1.0 ∙ a.number; ends_are = sym w.1.1.1 ∙ a.ends_are }
+    record { at = a.at; living = w.0; here = w.1; number = sym w.2 ∙ a.number; ends_are = sym w.3 ∙ a.ends_are }
 
 -- ---- each end keeps its points
 
@@ -291,7 +291,7 @@ all_set P (y ∷ ys) (suc i) x all here = (all.0, all_set P ys i x all.1 here)
 map_set : {A B : Type 0} (f : A → B) (xs : List A) (i : ℕ) (x y : A) → slice_get xs i ≡ Some x → f y ≡ f x → map f (set xs i y) ≡ map f xs
 map_set f [] i x y h same = refl
 map_set f (z ∷ zs) zero x y h same = let is : z ≡ x = cc in ap (λ a. a ∷ map f zs) (same ∙ ap f (sym is))
-map_set f (z ∷ zs) (suc i) x y h same = ap (λ as. f z ∷ as) (map_set f zs i x y h same)
+map_set f (z ∷ zs) (suc i) x y h same = ap (λ rest. f z ∷ rest) (map_set f zs i x y h same)
 
 abbrev pub with_sender : Living → ℕ → OutgoingState → Living
 with_sender l i o = record l { senders = set l.senders i o }
