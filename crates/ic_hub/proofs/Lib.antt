@@ -3,4 +3,4 @@ pub mod Shape
 pub mod Found
 pub mod Finds
 pub mod Moving
-pub mod Taking
+pub mod Receivers

@@ -10,11 +10,7 @@ use Rattle.ic_law.specs.Points.{IsEnded}
 use Rattle.ic_receiver.specs.Receiving.{Receiving, IsOver, IsEmpty, IsReady, HandsOver, Halts}
 use Rattle.ic_receiver.specs.Entries.{IsRefusing, IsHalting, list_of}
 use Rattle.ic_receiver.specs.Standing.{Stands, StandsOn, TakesNoMore, WaitsForNext, NotReady, TakesNow}
-use Rattle.ic_hub.specs.Hubbing.{Living, IsLiving}
-
--- each of them has a connection for each of its ends
-abbrev pub AreLiving : List Living → Type 0
-AreLiving live = (i : ℕ) (l : Living) → slice_get live i ≡ Some l → IsLiving l
+use Rattle.ic_hub.specs.Hubbing.{Living}
 
 -- ---- one receiver
 

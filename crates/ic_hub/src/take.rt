@@ -1,7 +1,7 @@
 // Parcels that the slice takes, and connections that it halts.
 ghost use Rattle.std.specs.Prelude.{◌≡◌, ◌<◌, ◌++◌, [], ◌∷◌, length, vec_len, vec_capacity, List, OnErr};
 ghost use Rattle.ic_receiver.specs.Entries.{list_of};
-ghost use Rattle.ic_hub.specs.Taking.{AreLiving, Takes, HaltsOne, TakesAt, HaltsAt};
+ghost use Rattle.ic_hub.specs.Taking.{Takes, HaltsOne, TakesAt, HaltsAt};
 ghost use Rattle.ic_law.specs.declared.history.Entry.{Entry};
 ghost use Rattle.ic_places.specs.Ends.{motions_of};
 ghost use Rattle.ic_hub.specs.Entries.{take_entry, take_from_entry, halt_entry};
@@ -76,15 +76,6 @@ pub(crate) fn listed_or_none(room: Vec<Datagram>, datagram: Option<Datagram>) ->
     match datagram {
         Some(datagram) => listed(room, datagram),
         None => Datagrams::from_vec(room),
-    }
-}
-
-/// Looks at each of them. Its clause: what is always true of live queries.
-pub(crate) fn living(live: &[Query])
-    ensures { AreLiving live.now }
-{
-    for query in live {
-        let _number = query.number;
     }
 }
 

@@ -3,5 +3,5 @@ pub mod Shown
 mod Moving
 mod Came
 mod Taken
-mod Others
+pub mod Others
 mod Made

@@ -1,6 +1,6 @@
 use Rattle.std.proofs.Common.{Ok, Err, ap}
 use Rattle.ic_hub.specs.Taking.{Hands}
-use Rattle.ic_hub.proofs.Taking.{take_refused}
+use Rattle.ic_hub.proofs.Receivers.{take_refused}
 use Rattle.ic_hub.proofs.take.take_one.Goals as goal
 
 pub returns-in-Ok-take : goal.returns-in-Ok-take

@@ -1,6 +1,6 @@
-use Rattle.std.proofs.Common.{◌≡◌, Some, ap, sym, subst, ◌∙◌, ◌<◌, length, slice_get, refl}
+use Rattle.std.proofs.Common.{◌≡◌, Some, ap, sym, subst, ◌∙◌, ◌<◌, length, slice_get, set}
 use Rattle.ic_hub.specs.Hubbing.{Living}
-use Rattle.ic_hub.proofs.Taking.{at_place, living_with, take_end}
+use Rattle.ic_hub.proofs.Receivers.{at_place, living_with, take_end}
 use Rattle.ic_hub.proofs.query.Query.take.Goals as goal
 
 -- the receiver that stood at the place
@@ -17,6 +17,6 @@ returns c = record {
   old = c.index_mut.result.now;
   new = c.take_one.new.receiver;
   here = ap (λ (l : Living). slice_get l.receivers c.args.place) (sym c.self.view_is) ∙ here c;
-  is = ?;
+  is = ap (λ (l : Living). record l { receivers = set l.receivers c.args.place c.take_one.new.receiver }) c.self.view_is;
   does = c.take_one.ensures;
 }
