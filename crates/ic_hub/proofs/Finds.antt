@@ -11,10 +11,14 @@ use Rattle.ic_conntab.specs.declared.answer.Find.TheVariants.{Foreign, Here, End
 use Rattle.ic_conntab.specs.Table.{Table, is_past, found, placed}
 use Rattle.ic_places.specs.Ends.{keys_of, sender_at, receiver_at}
 use Rattle.ic_places.specs.declared.slots.Sides.{Sides}
+use Rattle.ic_places.proofs.Named.{ends_have_their_sides, sides_are_found, keys_are_of_ends}
+use Rattle.ic_outgoing.specs.Outgoing.{OutgoingState}
+use Rattle.ic_receiver.specs.Receiving.{Receiving}
+use Rattle.ic_hub.specs.declared.finding.Found.{Found}
 use Rattle.ic_hub.specs.declared.finding.Found.TheVariants as says
 use Rattle.ic_hub.specs.Hubbing.{Hubbing, Living, IsHub}
-use Rattle.ic_hub.specs.Finding.{IsNotLive, IsFound, OfOther, NoSuchKey, OfEnded, OfUnbegun, There}
-use Rattle.ic_hub.proofs.Places.{at_contains}
+use Rattle.ic_hub.specs.Finding.{IsNotLive, IsFound, OfOther, NoSuchKey, OfEnded, OfUnbegun, There, SenderIs, ReceiverIs, HasNo}
+use Rattle.ic_hub.proofs.Places.{Shaped, at_contains, at_map}
 use Rattle.ic_hub.proofs.Shape.{apart_at}
 use Rattle.ic_hub.proofs.Found.{Tells, OfLive, OfNone, tells, key_at, no_key, position_none, position_some}
 use Rattle.ic_hub.proofs.Found.{OfOther as TellsOther}
@@ -128,3 +132,90 @@ pub indexed : (live : List Living) (number query : ℕ) (l : Living) → positio
 indexed live number query l first is =
     let p = position_some (λ (x : Living). x.number == number) live query first in
     p.1 ∙ ap Some (sym (is ∙ get_or_from_slice_get live query p.0 l p.1))
+
+-- ---- the connections of a key
+
+pub here_is : (i j : ℕ) (a b : Sides) → says.Here i a ≡ says.Here j b → a ≡ b
+here_is i j a b h = cc
+
+here_same : (i j : ℕ) (a b : Sides) → says.Here i a ≡ says.Here j b → (i ≡ j) × (a ≡ b)
+here_same i j a b h = (cc, cc)
+
+-- the sending connection that is found
+pub finds_sender : (s : Hubbing) (key : ConnKey) (query place : ℕ) (sides : Sides) → Shaped s → IsFound s key (says.Here query sides) → sides.sender ≡ Some place → SenderIs s key query place
+finds_sender s key query place sides shaped (OfOther other is) h = let bad : says.Here query sides ≡ says.Foreign = is in cc
+finds_sender s key query place sides shaped (NoSuchKey session i l at number none is) h = let bad : says.Here query sides ≡ says.Foreign = is in cc
+finds_sender s key query place sides shaped (OfEnded session none past is) h = let bad : says.Here query sides ≡ says.Ended = is in cc
+finds_sender s key query place sides shaped (OfUnbegun session none past is) h = let bad : says.Here query sides ≡ says.NotBegun = is in cc
+finds_sender s key query place sides shaped (There session i l at number has its sender receiver is) h =
+    let same = here_same query i sides its is in
+    let found : sender_at l.ends key ≡ Some place = sym sender ∙ ap (λ (x : Sides). x.sender) (sym same.1) ∙ h in
+    let end = (sides_are_found l.ends).0.some key place found in
+    let living = shaped.living i l at in
+    let there = at_map (λ (o : OutgoingState). o.sending.end) l.senders place end.0 (ap (λ xs. slice_get xs place) living.senders ∙ end.1) in
+    record {
+      living = l;
+      sender = there.0;
+      live = ap (λ n. slice_get s.live n) same.0 ∙ at;
+      number = number;
+      here = there.1;
+      is = ap (λ (x : ConnEnd). x.key) there.2 ∙ end.2;
+    }
+
+-- the receiving connection that is found
+pub finds_receiver : (s : Hubbing) (key : ConnKey) (query place : ℕ) (sides : Sides) → Shaped s → IsFound s key (says.Here query sides) → sides.receiver ≡ Some place → ReceiverIs s key query place
+finds_receiver s key query place sides shaped (OfOther other is) h = let bad : says.Here query sides ≡ says.Foreign = is in cc
+finds_receiver s key query place sides shaped (NoSuchKey session i l at number none is) h = let bad : says.Here query sides ≡ says.Foreign = is in cc
+finds_receiver s key query place sides shaped (OfEnded session none past is) h = let bad : says.Here query sides ≡ says.Ended = is in cc
+finds_receiver s key query place sides shaped (OfUnbegun session none past is) h = let bad : says.Here query sides ≡ says.NotBegun = is in cc
+finds_receiver s key query place sides shaped (There session i l at number has its sender receiver is) h =
+    let same = here_same query i sides its is in
+    let found : receiver_at l.ends key ≡ Some place = sym receiver ∙ ap (λ (x : Sides). x.receiver) (sym same.1) ∙ h in
+    let end = (sides_are_found l.ends).1.some key place found in
+    let living = shaped.living i l at in
+    let there = at_map (λ (r : Receiving). r.end) l.receivers place end.0 (ap (λ xs. slice_get xs place) living.receivers ∙ end.1) in
+    record {
+      living = l;
+      receiver = there.0;
+      live = ap (λ n. slice_get s.live n) same.0 ∙ at;
+      number = number;
+      here = there.1;
+      is = ap (λ (x : ConnEnd). x.key) there.2 ∙ end.2;
+    }
+
+-- the end of a live query has its session, its query and its key among the query's
+record OfHub (s : Hubbing) (i : ℕ) (l : Living) (end : ConnEnd) : Type 0 where
+  pub session : end.key.session ≡ s.session
+  pub query : l.number ≡ end.key.query
+  pub key : Contains (keys_of l.ends) end.key
+
+of_hub : (s : Hubbing) (i : ℕ) (l : Living) (end : ConnEnd) → Shaped s → slice_get s.live i ≡ Some l → Contains l.ends end → OfHub s i l end
+of_hub s i l end shaped at has =
+    let its = (shaped.of_hub i l at).ends.each end has in
+    record { session = its.session; query = sym its.query_is; key = (keys_are_of_ends l.ends end.key).1 (end, has, refl) }
+
+-- where none is found, no live query has such an end
+pub has_no : (s : Hubbing) (key : ConnKey) (side : Bool) (found : Found) → Shaped s → IsFound s key found → ((i : ℕ) (sides : Sides) (l : Living) → found ≡ says.Here i sides → slice_get s.live i ≡ Some l → sides.sender ≡ sender_at l.ends key
+    → sides.receiver ≡ receiver_at l.ends key → (end : ConnEnd) → Contains l.ends end → end.key ≡ key → end.sending ≡ side → ⊥) → HasNo side s key
+has_no s key side found shaped (OfOther other is) none i l at end has same sending = other (ap (λ (k : ConnKey). k.session) (sym same) ∙ (of_hub s i l end shaped at has).session)
+has_no s key side found shaped (NoSuchKey session j m there number without is) none i l at end has same sending =
+    let its = of_hub s i l end shaped at has in
+    let place = shaped.apart i j l m at there (its.query ∙ ap (λ (k : ConnKey). k.query) same ∙ sym number) in
+    let one : Some l ≡ Some m = sym at ∙ ap (λ n. slice_get s.live n) place ∙ there in
+    let is_it : l ≡ m = cc in
+    without (subst (λ (x : Living). Contains (keys_of x.ends) key) is_it (subst (λ k. Contains (keys_of l.ends) k) same its.key))
+has_no s key side found shaped (OfEnded session away past is) none i l at end has same sending = away i l at ((of_hub s i l end shaped at has).query ∙ ap (λ (k : ConnKey). k.query) same)
+has_no s key side found shaped (OfUnbegun session away past is) none i l at end has same sending = away i l at ((of_hub s i l end shaped at has).query ∙ ap (λ (k : ConnKey). k.query) same)
+has_no s key side found shaped (There session j m there number key_is sides sender receiver is) none i l at end has same sending =
+    let its = of_hub s i l end shaped at has in
+    let place = shaped.apart i j l m at there (its.query ∙ ap (λ (k : ConnKey). k.query) same ∙ sym number) in
+    let one : Some l ≡ Some m = sym at ∙ ap (λ n. slice_get s.live n) place ∙ there in
+    let is_it : l ≡ m = cc in
+    none j sides m is there sender receiver end (subst (λ (x : Living). Contains x.ends end) is_it has) same sending
+
+-- a sending end is found by its key
+pub no_sender : (l : Living) (key : ConnKey) → sender_at l.ends key ≡ None → (end : ConnEnd) → Contains l.ends end → end.key ≡ key → end.sending ≡ true → ⊥
+no_sender l key none end has same sends = ((sides_are_found l.ends).0.none key).0 none end ((ends_have_their_sides l.ends end).0.1 (has, sends)) same
+
+pub no_receiver : (l : Living) (key : ConnKey) → receiver_at l.ends key ≡ None → (end : ConnEnd) → Contains l.ends end → end.key ≡ key → end.sending ≡ false → ⊥
+no_receiver l key none end has same receives = ((sides_are_found l.ends).1.none key).0 none end ((ends_have_their_sides l.ends end).1.1 (has, receives)) same

@@ -303,8 +303,9 @@ with_receiver l i r = record l { receivers = set l.receivers i r }
 pub sender_keeps : (place : Place) (tick : ℕ) (l : Living) (i : ℕ) (old new : OutgoingState) → IsLiving l → IsOfHub place tick l → slice_get l.senders i ≡ Some old → SameEnd old new → new.now ≡ old.now
     → IsLiving (with_sender l i new) × IsOfHub place tick (with_sender l i new)
 sender_keeps place tick l i old new living of_hub here same tick_is =
-    (record { senders = map_set (λ (o : OutgoingState). o.sending.end) l.senders i old new here same.end ∙ living.senders; receivers = living.receivers; served = living.served },
-    record {
+    let keeps : IsLiving (with_sender l i new) = record { senders = map_set (λ (o : OutgoingState). o.sending.end) l.senders i old new here same.end ∙ living.senders; receivers = living.receivers; served = living.served } in
+    (keeps, record {
+      living = keeps;
       ends = of_hub.ends;
       ours = of_hub.ours;
       settings = all_set _ l.senders i new of_hub.settings (same.settings ∙ all_at _ l.senders i old of_hub.settings here);
@@ -314,8 +315,8 @@ sender_keeps place tick l i old new living of_hub here same tick_is =
 pub receiver_keeps : (place : Place) (tick : ℕ) (l : Living) (i : ℕ) (old new : Receiving) → IsLiving l → IsOfHub place tick l → slice_get l.receivers i ≡ Some old → new.end ≡ old.end
     → IsLiving (with_receiver l i new) × IsOfHub place tick (with_receiver l i new)
 receiver_keeps place tick l i old new living of_hub here same =
-    (record { senders = living.senders; receivers = map_set (λ (r : Receiving). r.end) l.receivers i old new here same ∙ living.receivers; served = living.served },
-    record { ends = of_hub.ends; ours = of_hub.ours; settings = of_hub.settings; tick_is = of_hub.tick_is })
+    let keeps : IsLiving (with_receiver l i new) = record { senders = living.senders; receivers = map_set (λ (r : Receiving). r.end) l.receivers i old new here same ∙ living.receivers; served = living.served } in
+    (keeps, record { living = keeps; ends = of_hub.ends; ours = of_hub.ours; settings = of_hub.settings; tick_is = of_hub.tick_is })
 
 -- no sender is served by what a sending end is asked
 unserved : (place : Place) (c : ConnKey) (e : Entry) → AsksOf place c true e → (query motion : ℕ) (from : ℤ) → IsServed query motion e from → ⊥
@@ -385,7 +386,7 @@ receiver_moved s h e q i l old new served shaped stands here at same count moved
       number = refl;
       ends = refl;
       living = record { senders = keeps.0.senders; receivers = keeps.0.receivers; served = count ∙ living.served };
-      of_hub = record { ends = keeps.1.ends; ours = keeps.1.ours; settings = keeps.1.settings; tick_is = keeps.1.tick_is };
+      of_hub = record { living = record { senders = keeps.0.senders; receivers = keeps.0.receivers; served = count ∙ living.served }; ends = keeps.1.ends; ours = keeps.1.ours; settings = keeps.1.settings; tick_is = keeps.1.tick_is };
       stands = record {
         senders = λ k o found.
           let other = λ key. λ (b : false ≡ true). let bad : false ≡ true = b in cc in
