@@ -5,3 +5,4 @@ pub mod Finds
 pub mod Moving
 pub mod Receivers
 pub mod Taking
+pub mod Putting
