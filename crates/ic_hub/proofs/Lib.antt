@@ -6,3 +6,4 @@ pub mod Moving
 pub mod Receivers
 pub mod Taking
 pub mod Putting
+pub mod Choosing
