@@ -1,6 +1,6 @@
 -- One receiver of a query, where it is asked for its next parcel or halted.
-use Rattle.std.proofs.Common.{◌≡◌, ℕ, zero, suc, ◌<◌, List, [], ◌∷◌, set, map, length, Option, Some, None, Result, Ok, Err, refl, ap, sym, ◌∙◌, slice_get, get_or}
-use Rattle.std.proofs.lemmas.Option.{slice_get-get_or}
+use Rattle.std.proofs.Common.{◌≡◌, ℕ, zero, suc, ◌<◌, ℤ, List, [], ◌∷◌, set, map, length, Option, Some, None, Result, Ok, Err, refl, ap, sym, ◌∙◌, subst, slice_get, get_or}
+use Rattle.std.proofs.lemmas.Option.{slice_get_within, slice_get-get_or}
 use Rattle.ic_base.specs.declared.datagram.Datagram.{Datagram}
 use Rattle.ic_base.specs.declared.datagram.Parcel.{Parcel}
 use Rattle.ic_law.specs.declared.history.HubNo.{HubNo}
@@ -10,9 +10,10 @@ use Rattle.ic_receiver.specs.declared.take_no.TakeNo.TheVariants as taking
 use Rattle.ic_receiver.specs.Receiving.{Receiving, IsEmpty, IsOver, HandsOver, Halts, HaltsAgain, HaltsNow}
 use Rattle.ic_receiver.specs.Entries.{IsRefusing}
 use Rattle.ic_receiver.specs.Standing.{StandsOn}
+use Rattle.ic_places.specs.Ends.{motions_of, receivers_of}
 use Rattle.ic_hub.specs.Hubbing.{Living, IsLiving}
 use Rattle.ic_hub.specs.Calls.{take_no}
-use Rattle.ic_hub.specs.Taking.{Takes, NoRoom, Waits, Done, Hands, HaltsOne, NoRoomToHalt, HaltsIt}
+use Rattle.ic_hub.specs.Taking.{Takes, NoRoom, Waits, Done, Hands, HaltsOne, NoRoomToHalt, HaltsIt, NobodyReady, ComesFirst, FindsFirst, Refuses, served_by, TakesAny, Nobody, Somebody}
 
 pub at_place : {A : Type 0} (xs : List A) (i : ℕ) (x : A) → i < length xs → x ≡ get_or xs i x → slice_get xs i ≡ Some x
 at_place xs i x within is = slice_get-get_or xs i x within ∙ ap Some (sym is)
@@ -52,3 +53,38 @@ map_set f (z ∷ zs) (suc i) x y h same = ap (λ rest. f z ∷ rest) (map_set f 
 -- a receiver with its end keeps what is always true of its query
 pub living_with : (l : Living) (i : ℕ) (old new : Receiving) → IsLiving l → slice_get l.receivers i ≡ Some old → new.end ≡ old.end → IsLiving (record l { receivers = set l.receivers i new })
 living_with l i old new living here same = record { senders = living.senders; receivers = map_set (λ (r : Receiving). r.end) l.receivers i old new here same ∙ living.receivers; served = living.served }
+
+-- ---- a take of any
+
+-- so does one with as many segments served last
+pub living_serving : (l : Living) (i : ℕ) (old new : Receiving) (served : List (Option ℤ)) → IsLiving l → slice_get l.receivers i ≡ Some old → new.end ≡ old.end → length served ≡ length l.served
+    → IsLiving (record l { receivers = set l.receivers i new; served = served })
+living_serving l i old new served living here same count = record { senders = living.senders; receivers = (living_with l i old new living here same).receivers; served = count ∙ living.served }
+
+-- none of the motion is ready
+pub nobody_any : (l now : Living) (motion number : ℕ) (looked asked : List Receiving) (places : List ℕ) (why : HubNo) → l ≡ now → looked ≡ l.receivers → asked ≡ l.receivers → places ≡ receivers_of l.ends number → NobodyReady looked places
+    → Refuses asked places why → TakesAny motion number now now (Err why)
+nobody_any l now motion number looked asked places why same looks asks are nobody refuses =
+    let at : places ≡ receivers_of now.ends number = are ∙ ap (λ (x : Living). receivers_of x.ends number) same in
+    let of_now : l.receivers ≡ now.receivers = ap (λ (x : Living). x.receivers) same in
+    Nobody why
+    (subst (λ ps. NobodyReady now.receivers ps) at (subst (λ rs. NobodyReady rs places) (looks ∙ of_now) nobody))
+    (subst (λ ps. Refuses now.receivers ps why) at (subst (λ rs. Refuses rs places why) (asks ∙ of_now) refuses)) refl refl
+
+-- the first of the motion is asked
+pub somebody_any : (l now : Living) (motion number place : ℕ) (last : Option ℤ) (looked : List Receiving) (places : List ℕ) (old new : Receiving) (result : Result (Parcel × List Datagram) HubNo) → l ≡ now → IsLiving l
+    → motion < length (motions_of now.ends) → looked ≡ l.receivers → places ≡ receivers_of l.ends number → last ≡ get_or l.served motion last → FindsFirst looked places last (Some place) → old ≡ get_or l.receivers place old → Takes old new result
+    → TakesAny motion number now (record l { receivers = set l.receivers place new; served = served_by l.served motion result }) result
+somebody_any l now motion number place last looked places old new result same living within looks are served first at takes =
+    let firsts : ComesFirst l.receivers (receivers_of l.ends number) last place first.0 = subst (λ ps. ComesFirst l.receivers ps last place first.0) are (subst (λ rs. ComesFirst rs places last place first.0) looks first.1) in
+    let here = at_place l.receivers place old (slice_get_within l.receivers place firsts.receiver firsts.here) at in
+    let room : motion < length l.served = subst (λ n. motion < n) (sym (living.served ∙ ap (λ (x : Living). length (motions_of x.ends)) same)) within in
+    subst (λ x. TakesAny motion number x (record l { receivers = set l.receivers place new; served = served_by l.served motion result }) result) same
+    (Somebody last place first.0 (record l { receivers = set l.receivers place new }) (at_place l.served motion last room served) firsts
+    (record { old = old; new = new; here = here; is = refl; does = takes }) refl)
+
+-- and is there
+pub first_here : (l : Living) (place : ℕ) (last : Option ℤ) (looked : List Receiving) (places : List ℕ) (old : Receiving) → looked ≡ l.receivers → FindsFirst looked places last (Some place) → old ≡ get_or l.receivers place old
+    → slice_get l.receivers place ≡ Some old
+first_here l place last looked places old looks first at =
+    at_place l.receivers place old (slice_get_within l.receivers place first.1.receiver (subst (λ rs. slice_get rs place ≡ Some first.1.receiver) looks first.1.here)) at
