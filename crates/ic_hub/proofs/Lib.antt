@@ -7,3 +7,4 @@ pub mod Receivers
 pub mod Taking
 pub mod Putting
 pub mod Choosing
+pub mod TakingAny

@@ -47,7 +47,7 @@ unknown_key side s key h none stands = λ end here is sends.
     none among.at among.living among.here end (subst (λ x. Contains x end) (sym among.ends_are) here.stands) is sends
 
 -- the reply emits nothing
-emits_none : (s : Hubbing) (e : Entry) → emits e ≡ [] → (d : Datagram) → Contains (emits e) d → IsFormed (place_in s) d
+pub emits_none : (s : Hubbing) (e : Entry) → emits e ≡ [] → (d : Datagram) → Contains (emits e) d → IsFormed (place_in s) d
 emits_none s e none d at = absurd (Contains-none d (subst (λ ds. Contains ds d) none at))
 
 pub take_from_unknown : (s : Hubbing) (key : ConnKey) (h : List Entry) → Shaped s → HasNo false s key → Stands s h → Stands s (h ++ take_from_entry key (Err (unknown key.query key.motion)) ∷ [])
