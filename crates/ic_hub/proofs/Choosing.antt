@@ -1,6 +1,6 @@
 -- Which of several receivers comes first in cyclic order.
-use Rattle.std.proofs.Common.{◌≡◌, ℕ, ◌+◌, ◌<◌, ℤ, negsuc, pos, ◌+ℤ◌, List, [], ◌∷◌, ◌++◌, length, take, Bool, true, false, cond, Option, Some, None, refl, ap, sym, ◌∙◌, subst, arith, inl, inr, ◌⊎◌, slice_get, get_or}
-use Rattle.std.specs.Prelude.{◌≤ℤ◌, ◌<ℤ◌, int_lt}
+use Rattle.std.proofs.Common.{◌≡◌, ℕ, ◌+◌, ◌<◌, ℤ, negsuc, pos, ◌+ℤ◌, List, [], ◌∷◌, ◌++◌, length, take, Option, Some, None, refl, ap, sym, ◌∙◌, subst, arith, inl, inr, ◌⊎◌, slice_get, get_or}
+use Rattle.std.specs.Prelude.{◌≤ℤ◌, ◌<ℤ◌}
 use Rattle.std.specs.List.{Contains}
 use Rattle.std.proofs.lemmas.Int.{ints, by_lt_z}
 use Rattle.std.proofs.lemmas.List.{take_more}
@@ -40,17 +40,17 @@ pub rank_first : (last : Option ℤ) (a b : ℤ) → IsSegment a → IsSegment b
 rank_first None a b sa sb h = same_or_less a b h
 rank_first (Some last) a b sa sb h = by_lt_z last a
     (λ a_behind. by_lt_z last b
-      (λ b_behind. elim (same_or_less a b (both_behind a b (subst (λ x. x ≤ℤ (b +ℤ negsuc 64)) (behind last a a_behind) (subst (λ x. rank_of (Some last) a ≤ℤ x) (behind last b b_behind) h)))) [
-        | inl same ↦ inl same
-        | inr less ↦ inr (inl (a_behind, inr less))
-      ])
-      (λ b_before. inr (inl (a_behind, inl b_before))))
+    (λ b_behind. elim (same_or_less a b (both_behind a b (subst (λ x. x ≤ℤ (b +ℤ negsuc 64)) (behind last a a_behind) (subst (λ x. rank_of (Some last) a ≤ℤ x) (behind last b b_behind) h)))) [
+      | inl same ↦ inl same
+      | inr less ↦ inr (inl (a_behind, inr less))
+    ])
+    (λ b_before. inr (inl (a_behind, inl b_before))))
     (λ a_before. by_lt_z last b
-      (λ b_behind. absurd (never_before a b sa sb (subst (λ x. x ≤ℤ (b +ℤ negsuc 64)) (before last a a_before) (subst (λ x. rank_of (Some last) a ≤ℤ x) (behind last b b_behind) h))))
-      (λ b_before. elim (same_or_less a b (subst (λ x. x ≤ℤ b) (before last a a_before) (subst (λ x. rank_of (Some last) a ≤ℤ x) (before last b b_before) h))) [
-        | inl same ↦ inl same
-        | inr less ↦ inr (inr (a_before, b_before, less))
-      ]))
+    (λ b_behind. absurd (never_before a b sa sb (subst (λ x. x ≤ℤ (b +ℤ negsuc 64)) (before last a a_before) (subst (λ x. rank_of (Some last) a ≤ℤ x) (behind last b b_behind) h))))
+    (λ b_before. elim (same_or_less a b (subst (λ x. x ≤ℤ b) (before last a a_before) (subst (λ x. rank_of (Some last) a ≤ℤ x) (before last b b_before) h))) [
+      | inl same ↦ inl same
+      | inr less ↦ inr (inr (a_before, b_before, less))
+    ]))
 
 -- ---- one more place
 

@@ -1,5 +1,5 @@
 -- One receiver of a query, where it is asked for its next parcel or halted.
-use Rattle.std.proofs.Common.{◌≡◌, ℕ, zero, suc, ◌<◌, ℤ, List, [], ◌∷◌, set, map, length, Option, Some, None, Result, Ok, Err, refl, ap, sym, ◌∙◌, subst, slice_get, get_or}
+use Rattle.std.proofs.Common.{◌≡◌, ℕ, zero, suc, ◌<◌, ℤ, List, [], ◌∷◌, set, length, Option, Some, Result, Err, refl, ap, sym, ◌∙◌, subst, slice_get, get_or}
 use Rattle.std.proofs.lemmas.Option.{slice_get_within, slice_get-get_or}
 use Rattle.ic_base.specs.declared.datagram.Datagram.{Datagram}
 use Rattle.ic_base.specs.declared.datagram.Parcel.{Parcel}
@@ -7,12 +7,13 @@ use Rattle.ic_law.specs.declared.history.HubNo.{HubNo}
 use Rattle.ic_law.specs.declared.history.HubNo.TheVariants as no
 use Rattle.ic_receiver.specs.declared.take_no.TakeNo.{TakeNo}
 use Rattle.ic_receiver.specs.declared.take_no.TakeNo.TheVariants as taking
-use Rattle.ic_receiver.specs.Receiving.{Receiving, IsEmpty, IsOver, HandsOver, Halts, HaltsAgain, HaltsNow}
+use Rattle.ic_receiver.specs.Receiving.{Receiving, IsEmpty, IsOver, Halts, HaltsAgain, HaltsNow}
 use Rattle.ic_receiver.specs.Entries.{IsRefusing}
 use Rattle.ic_receiver.specs.Standing.{StandsOn}
 use Rattle.ic_places.specs.Ends.{motions_of, receivers_of}
 use Rattle.ic_hub.specs.Hubbing.{Living, IsLiving}
 use Rattle.ic_hub.specs.Calls.{take_no}
+use Rattle.ic_hub.proofs.Moving.{receiver_living}
 use Rattle.ic_hub.specs.Taking.{Takes, NoRoom, Waits, Done, Hands, HaltsOne, NoRoomToHalt, HaltsIt, NobodyReady, ComesFirst, FindsFirst, Refuses, served_by, TakesAny, Nobody, Somebody}
 
 pub at_place : {A : Type 0} (xs : List A) (i : ℕ) (x : A) → i < length xs → x ≡ get_or xs i x → slice_get xs i ≡ Some x
@@ -45,21 +46,12 @@ pub halt_end : (old new : Receiving) (result : Result (List Datagram) HubNo) →
 halt_end old new result (NoRoomToHalt is same) = ap (λ (r : Receiving). r.end) same
 halt_end old new result (HaltsIt told is halts stands) = halts_end old new told halts
 
-map_set : {A B : Type 0} (f : A → B) (xs : List A) (i : ℕ) (x y : A) → slice_get xs i ≡ Some x → f y ≡ f x → map f (set xs i y) ≡ map f xs
-map_set f [] i x y h same = refl
-map_set f (z ∷ zs) zero x y h same = let is : z ≡ x = cc in ap (λ a. a ∷ map f zs) (same ∙ ap f (sym is))
-map_set f (z ∷ zs) (suc i) x y h same = ap (λ rest. f z ∷ rest) (map_set f zs i x y h same)
-
--- a receiver with its end keeps what is always true of its query
-pub living_with : (l : Living) (i : ℕ) (old new : Receiving) → IsLiving l → slice_get l.receivers i ≡ Some old → new.end ≡ old.end → IsLiving (record l { receivers = set l.receivers i new })
-living_with l i old new living here same = record { senders = living.senders; receivers = map_set (λ (r : Receiving). r.end) l.receivers i old new here same ∙ living.receivers; served = living.served }
-
 -- ---- a take of any
 
--- so does one with as many segments served last
+-- a query with such a receiver, and as many segments served last, is what a query always is
 pub living_serving : (l : Living) (i : ℕ) (old new : Receiving) (served : List (Option ℤ)) → IsLiving l → slice_get l.receivers i ≡ Some old → new.end ≡ old.end → length served ≡ length l.served
     → IsLiving (record l { receivers = set l.receivers i new; served = served })
-living_serving l i old new served living here same count = record { senders = living.senders; receivers = (living_with l i old new living here same).receivers; served = count ∙ living.served }
+living_serving l i old new served living here same count = record { senders = living.senders; receivers = (receiver_living l i old new living here same).receivers; served = count ∙ living.served }
 
 -- none of the motion is ready
 pub nobody_any : (l now : Living) (motion number : ℕ) (looked asked : List Receiving) (places : List ℕ) (why : HubNo) → l ≡ now → looked ≡ l.receivers → asked ≡ l.receivers → places ≡ receivers_of l.ends number → NobodyReady looked places

@@ -1,30 +1,28 @@
 -- A hub stands on with takes from one sender and with halts.
-use Rattle.std.proofs.Common.{◌≡◌, ◌≢◌, ℕ, List, [], ◌∷◌, ◌++◌, ◌+◌, set, Bool, true, false, Option, Some, None, Result, Ok, Err, refl, ap, sym, ◌∙◌, subst, inl, inr, slice_get, get_or, ◌<◌, length}
+use Rattle.std.proofs.Common.{◌≡◌, ℕ, List, [], ◌∷◌, ◌++◌, ◌+◌, Bool, false, Option, Some, Result, Ok, Err, refl, ap, sym, ◌∙◌, subst, inr, slice_get, get_or, ◌<◌, length}
 use Rattle.std.specs.Prelude.{OnErr}
 use Rattle.std.specs.List.{AllByRecursion, Contains}
 use Rattle.std.proofs.lemmas.Option.{slice_get_within, get_or_from_slice_get}
 use Rattle.ic_base.specs.declared.keys.ConnKey.{ConnKey}
-use Rattle.ic_base.specs.declared.keys.ConnEnd.{ConnEnd}
 use Rattle.ic_base.specs.declared.datagram.Datagram.{Datagram}
 use Rattle.ic_base.specs.declared.datagram.Parcel.{Parcel}
 use Rattle.ic_conntab.specs.Table.{Table}
 use Rattle.ic_header.specs.declared.flags.Flags.TheVariants.{Ack, Stop}
 use Rattle.ic_law.specs.declared.history.HubAsk.TheVariants.{Begin, Take, TakeFrom, Halt, Clear}
-use Rattle.ic_law.specs.declared.history.HubReply.TheVariants.{Gave, Took, Memory}
+use Rattle.ic_law.specs.declared.history.HubReply.TheVariants.{Gave, Took}
 use Rattle.ic_law.specs.declared.history.HubNo.{HubNo}
 use Rattle.ic_law.specs.declared.history.HubNo.TheVariants as no
 use Rattle.ic_law.specs.declared.history.Entry.{Entry}
-use Rattle.ic_law.specs.History.{emits, leaves, was_begun}
-use Rattle.ic_law.specs.Points.{Place, IsFormed}
+use Rattle.ic_law.specs.History.{emits}
+use Rattle.ic_law.specs.Points.{IsFormed}
 use Rattle.ic_law.specs.Asking.{IsAllowed, AreEnds}
 use Rattle.ic_law.specs.Arriving.{IsUnknownKey, unknown}
 use Rattle.ic_law.proofs.Lists.{Contains-none, Contains-one}
 use Rattle.ic_outgoing.specs.Outgoing.{OutgoingState}
-use Rattle.ic_receiver.specs.Receiving.{Receiving, IsAnswer, HandsOver, Halts, HaltsAgain, HaltsNow}
+use Rattle.ic_receiver.specs.Receiving.{Receiving, HandsOver, Halts, HaltsAgain, HaltsNow}
 use Rattle.ic_receiver.specs.Entries.{list_of}
 use Rattle.ic_receiver.specs.Standing.{Stands as ReceiverStands}
-use Rattle.ic_ends.specs.Entries.{IsOurs, OfTakeFrom, OfHalt, Concerns, IsNought, NoMemory, UnknownHalt, UnknownTakeFrom, IsPacketOf}
-use Rattle.ic_ends.specs.Living.{BeginsNone}
+use Rattle.ic_ends.specs.Entries.{IsOurs, OfTakeFrom, OfHalt, Concerns, NoMemory, UnknownHalt, UnknownTakeFrom}
 use Rattle.ic_ends.specs.Formed.{IsFormedOf}
 use Rattle.ic_ends.proofs.Forms.{answers_formed}
 use Rattle.ic_ends.proofs.Served.{served_before}
@@ -35,8 +33,8 @@ use Rattle.ic_hub.specs.Entries.{take_from_entry, halt_entry}
 use Rattle.ic_hub.specs.Taking.{Takes, NoRoom, Waits, Done, Hands, HaltsOne, NoRoomToHalt, HaltsIt, AtReceiver, TakesAt, HaltsAt}
 use Rattle.ic_hub.proofs.Places.{Shaped, all_at, contains_at, end_of_receiver}
 use Rattle.ic_hub.proofs.Shape.{hub_with}
-use Rattle.ic_hub.proofs.Receivers.{set_same, living_with, take_end, halt_end, halts_end}
-use Rattle.ic_hub.proofs.Moving.{with_receiver, with_query, nought_stands, receiver_moved}
+use Rattle.ic_hub.proofs.Receivers.{set_same, halts_end}
+use Rattle.ic_hub.proofs.Moving.{with_receiver, receiver_living, with_query, nought_stands, receiver_moved}
 
 -- ---- entries of no end
 
@@ -144,9 +142,9 @@ took s h q i l old new result shaped stands here at (Hands parcel d is hands goe
     let told = told_with s old new parcel d end hands in
     subst (λ r. Stands (with_query s q (with_receiver l i new)) (h ++ take_from_entry old.end.key r ∷ [])) (sym is)
     (moved s h e q i l old new shaped stands here at (ap (λ (r : Receiving). r.end) hands.after_is)
-      (goes s.settings h e (record { ask = (refl, hands.hands.from); reply = refl }) ((stands.each q l here).receivers i old at))
-      (record { asks = OfTakeFrom refl refl; replied = inr refl; emitted = λ x found. (told x found).packet })
-      (no_take_from old.end.key) tt (λ x found. (told x found).formed))
+    (goes s.settings h e (record { ask = (refl, hands.hands.from); reply = refl }) ((stands.each q l here).receivers i old at))
+    (record { asks = OfTakeFrom refl refl; replied = inr refl; emitted = λ x found. (told x found).packet })
+    (no_take_from old.end.key) tt (λ x found. (told x found).formed))
 
 -- ---- a halt
 
@@ -161,9 +159,9 @@ halted s h q i l old new result shaped stands here at (HaltsIt told is halts goe
     let tells = told_by s old new told end halts in
     subst (λ r. Stands (with_query s q (with_receiver l i new)) (h ++ halt_entry old.end.key r ∷ [])) (sym is)
     (moved s h e q i l old new shaped stands here at (halts_end old new told halts)
-      (goes s.settings h e (record { ask = refl; reply = refl }) ((stands.each q l here).receivers i old at))
-      (record { asks = OfHalt refl refl; replied = inr refl; emitted = λ x found. (tells x found).packet })
-      (no_halt old.end.key) tt (λ x found. (tells x found).formed))
+    (goes s.settings h e (record { ask = refl; reply = refl }) ((stands.each q l here).receivers i old at))
+    (record { asks = OfHalt refl refl; replied = inr refl; emitted = λ x found. (tells x found).packet })
+    (no_halt old.end.key) tt (λ x found. (tells x found).formed))
 
 -- ---- the receiver of a key
 
@@ -216,7 +214,7 @@ of_hub_with s l m of_hub living number ends senders =
 pub hub_at : (Is : Receiving → Receiving → Type 0) (s : Hubbing) (table : Table) (q i : ℕ) (l after : Living) → IsHub s table → slice_get s.live q ≡ Some l → (at : AtReceiver Is i l after) → at.new.end ≡ at.old.end → IsHub (with_query s q after) table
 hub_at Is s table q i l after is here at end =
     let of_hub = all_at (IsOfHub (place_in s) s.tick) s.live q l is.each here in
-    let living : IsLiving after = subst IsLiving (sym at.is) (living_with l i at.old at.new of_hub.living at.here end) in
+    let living : IsLiving after = subst IsLiving (sym at.is) (receiver_living l i at.old at.new of_hub.living at.here end) in
     let number : after.number ≡ l.number = ap (λ (x : Living). x.number) at.is in
     let ends : after.ends ≡ l.ends = ap (λ (x : Living). x.ends) at.is in
     hub_with s table q l after is here number ends (of_hub_with s l after of_hub living number ends (ap (λ (x : Living). x.senders) at.is))

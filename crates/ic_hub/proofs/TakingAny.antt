@@ -1,11 +1,10 @@
 -- A hub stands on with takes from any sender of a motion.
-use Rattle.std.proofs.Common.{◌≡◌, ◌≢◌, ℕ, ◌+◌, ◌<◌, ℤ, List, [], ◌∷◌, ◌++◌, set, length, Bool, true, false, ◌==◌, Option, Some, None, Result, Ok, Err, refl, ap, sym, ◌∙◌, subst, arith, inl, inr, ◌⊎◌, slice_get, get_or, position, length-set, true≢false}
+use Rattle.std.proofs.Common.{◌≡◌, ◌≢◌, ℕ, ◌<◌, ℤ, List, [], ◌∷◌, ◌++◌, set, length, true, false, ◌==◌, Option, Some, None, Result, Ok, Err, refl, ap, sym, ◌∙◌, subst, inl, inr, ◌⊎◌, slice_get, get_or, position, length-set, true≢false}
 use Rattle.std.specs.Prelude.{OnErr, ◌≤ℤ◌}
-use Rattle.std.specs.List.{Contains, IsDistinct}
+use Rattle.std.specs.List.{Contains}
 use Rattle.std.proofs.lemmas.Option.{slice_get_within, get_or_from_slice_get}
 use Rattle.std.proofs.lemmas.Bool.Decides.{Decides-eqb}
 use Rattle.std.proofs.lemmas.Map.Keys.{apart_from_distinct}
-use Rattle.ic_base.specs.declared.keys.ConnKey.{ConnKey}
 use Rattle.ic_base.specs.declared.keys.ConnEnd.{ConnEnd}
 use Rattle.ic_base.specs.declared.datagram.Datagram.{Datagram}
 use Rattle.ic_base.specs.declared.datagram.Parcel.{Parcel}
@@ -15,10 +14,9 @@ use Rattle.ic_law.specs.declared.history.HubReply.TheVariants.{Took}
 use Rattle.ic_law.specs.declared.history.HubNo.{HubNo}
 use Rattle.ic_law.specs.declared.history.HubNo.TheVariants as no
 use Rattle.ic_law.specs.declared.history.Entry.{Entry}
-use Rattle.ic_law.specs.Packets.{IsSegment}
-use Rattle.ic_law.specs.Points.{IsEnded, IsHere}
-use Rattle.ic_law.specs.Receiving.{IsTaken, IsTaking, IsNext}
-use Rattle.ic_law.specs.Arriving.{IsOfMotion, IsReady as IsReadyIn, IsServed, LastServed, ComesBefore, AnswersTakeAny, AllOver, NoneReady, Serves, unknown}
+use Rattle.ic_law.specs.Points.{IsEnded}
+use Rattle.ic_law.specs.Receiving.{IsTaking, IsNext}
+use Rattle.ic_law.specs.Arriving.{IsOfMotion, IsReady as IsReadyIn, LastServed, ComesBefore, AnswersTakeAny, AllOver, NoneReady, Serves, unknown}
 use Rattle.ic_places.specs.Ends.{receiving_ends, motions_of, receivers_of}
 use Rattle.ic_places.proofs.Named.{ends_have_their_sides, motions_are_received, motions_differ, receivers_have_the_motion}
 use Rattle.ic_receiver.specs.Receiving.{Receiving, IsEmpty, IsOver, IsReady, HandsOver}
@@ -30,17 +28,14 @@ use Rattle.ic_ends.proofs.Beside.{set_cases}
 use Rattle.ic_hub.specs.Hubbing.{Hubbing, Living, IsLiving, IsOfHub, IsHub, place_in}
 use Rattle.ic_hub.specs.Standing.{Stands}
 use Rattle.ic_hub.specs.Entries.{take_entry}
-use Rattle.ic_hub.specs.Taking.{Takes, NoRoom, Waits, Done, Hands, TakesAt, NobodyReady, ComesFirst, rank_of, Refuses, AllDone, OneOpen, served_by, TakesAny, Nobody, Somebody}
-use Rattle.ic_hub.proofs.Places.{Shaped, all_at, map_at, at_contains, contains_at, end_of_receiver, receiver_of, number_of, apart_or_same}
+use Rattle.ic_hub.specs.Taking.{Takes, NoRoom, Waits, Done, Hands, NobodyReady, ComesFirst, rank_of, Refuses, AllDone, OneOpen, served_by, TakesAny, Nobody, Somebody}
+use Rattle.ic_hub.proofs.Places.{Shaped, all_at, map_at, at_contains, contains_at, end_of_receiver, receiver_of, number_of, apart_or_same, some_one}
 use Rattle.ic_hub.proofs.Shape.{hub_with}
 use Rattle.ic_hub.proofs.Found.{position_none, position_some}
 use Rattle.ic_hub.proofs.Receivers.{set_same, living_serving, take_end}
 use Rattle.ic_hub.proofs.Choosing.{rank_first}
-use Rattle.ic_hub.proofs.Taking.{EndHere, end_here, told_with, emits_none, as_it_was, of_hub_with}
+use Rattle.ic_hub.proofs.Taking.{end_here, told_with, emits_none, as_it_was, of_hub_with}
 use Rattle.ic_hub.proofs.Moving.{with_receiver, with_query, has_end, nought_stands, receiver_moved}
-
-some_one : {A : Type 0} (a b : A) → Some a ≡ Some b → a ≡ b
-some_one a b h = cc
 
 -- ---- the receivers of a motion
 
@@ -147,16 +142,16 @@ nobody_stands s h query motion q m l why shaped stands at nobody (AllDone done i
     let w = some_end s h query motion q m l shaped stands at in
     subst (λ x. Stands s (h ++ take_entry query motion (Err x) ∷ [])) (sym is)
     (take_refused s query motion h w.0 no.Ended shaped stands w.1 (AllOver (λ end of.
-      let r = receiver_at_motion s h query motion q l end shaped stands at.here at.number of in
-      subst (λ (x : ConnEnd). IsEnded x.key h) r.is (done r.place r.receiver r.among r.at s.settings h ((stands.each q l at.here).receivers r.place r.receiver r.at))) refl))
+    let r = receiver_at_motion s h query motion q l end shaped stands at.here at.number of in
+    subst (λ (x : ConnEnd). IsEnded x.key h) r.is (done r.place r.receiver r.among r.at s.settings h ((stands.each q l at.here).receivers r.place r.receiver r.at))) refl))
 nobody_stands s h query motion q m l why shaped stands at nobody (OneOpen place r among here goes_on is) =
     let of = of_motion s h query motion q place l r shaped stands at.here at.number among here in
     subst (λ x. Stands s (h ++ take_entry query motion (Err x) ∷ [])) (sym is)
     (take_refused s query motion h r.end no.Empty shaped stands of
-      (NoneReady r.end of (λ ended. goes_on s.settings h ((stands.each q l at.here).receivers place r here) ended) (λ end ready.
-        let x = receiver_at_motion s h query motion q l end shaped stands at.here at.number ready.of_motion in
-        nobody x.place x.receiver x.among x.at s.settings h ((stands.each q l at.here).receivers x.place x.receiver x.at)
-        (λ ended. ready.goes_on (subst (λ (y : ConnEnd). IsEnded y.key h) x.is ended)) ready.packet (subst (λ (y : ConnEnd). IsNext y.key h ready.packet) (sym x.is) ready.next)) refl))
+    (NoneReady r.end of (λ ended. goes_on s.settings h ((stands.each q l at.here).receivers place r here) ended) (λ end ready.
+    let x = receiver_at_motion s h query motion q l end shaped stands at.here at.number ready.of_motion in
+    nobody x.place x.receiver x.among x.at s.settings h ((stands.each q l at.here).receivers x.place x.receiver x.at)
+    (λ ended. ready.goes_on (subst (λ (y : ConnEnd). IsEnded y.key h) x.is ended)) ready.packet (subst (λ (y : ConnEnd). IsNext y.key h ready.packet) (sym x.is) ready.next)) refl))
 
 -- ---- a take that serves one
 
@@ -214,7 +209,7 @@ module _ (s : Hubbing) (h : List Entry) (query motion q m place : ℕ) (l : Livi
             (λ ended. ready.goes_on (subst (λ (y : ConnEnd). IsEnded y.key h) x.is ended)) ready.packet (subst (λ (y : ConnEnd). IsNext y.key h ready.packet) (sym x.is) ready.next))
         | inr le ↦ subst (λ (y : ConnEnd). (old.end.key.from ≡ y.key.from) ⊎ ComesBefore last old.end.key.from y.key.from) x.is
             (rank_first last old.end.key.from x.receiver.end.key.from mine.ours.from its.ours.from
-              (subst (λ (r : Receiving). rank_of last r.end.key.from ≤ℤ rank_of last x.receiver.end.key.from) same (subst (λ n. n ≤ℤ rank_of last x.receiver.end.key.from) first.rank_is le)))
+            (subst (λ (r : Receiving). rank_of last r.end.key.from ≤ℤ rank_of last x.receiver.end.key.from) same (subst (λ n. n ≤ℤ rank_of last x.receiver.end.key.from) first.rank_is le)))
       ]
 
   was_served : LastServed query motion h last
@@ -230,9 +225,9 @@ module _ (s : Hubbing) (h : List Entry) (query motion q m place : ℕ) (l : Livi
   serves : (k other : ℕ) (then : Option ℤ) → slice_get (motions_of l.ends) k ≡ Some other → slice_get (set l.served m (Some parcel.from)) k ≡ Some then → LastServed l.number other (h ++ taken_from ∷ []) then
   serves k other then motion_at found = elim (set_cases l.served m k (Some parcel.from) then found) [
     | inl w ↦ (
-      let same : motion ≡ other = some_one motion other (sym at.motion_is ∙ ap (λ n. slice_get (motions_of l.ends) n) w.0 ∙ motion_at) in
-      subst (λ t. LastServed l.number other (h ++ taken_from ∷ []) t) (sym w.1)
-      (served_now l.number other h taken_from parcel.from (record { parcel = parcel; ds = d ∷ []; ask = ap (λ n. Take n motion) (sym at.number) ∙ ap (λ n. Take l.number n) same; reply = refl; sender = refl })))
+        let same : motion ≡ other = some_one motion other (sym at.motion_is ∙ ap (λ n. slice_get (motions_of l.ends) n) w.0 ∙ motion_at) in
+        subst (λ t. LastServed l.number other (h ++ taken_from ∷ []) t) (sym w.1)
+        (served_now l.number other h taken_from parcel.from (record { parcel = parcel; ds = d ∷ []; ask = ap (λ n. Take n motion) (sym at.number) ∙ ap (λ n. Take l.number n) same; reply = refl; sender = refl })))
     | inr w ↦ served_before l.number other h taken_from then
         (λ from is. motions_apart l.ends m k motion other at.motion_is motion_at w.0 (same_take query motion l.number other is.ask).1)
         ((stands.each q l at.here).served k other then motion_at w.1)

@@ -1,5 +1,5 @@
 -- What takes and halts do to a receiver, and to a live query.
-use Rattle.std.specs.Prelude.{◌≡◌, ◌⊎◌, ℕ, ℤ, pos, negsuc, ◌+ℤ◌, ◌≤ℤ◌, int_lt, if◌then◌else◌, List, [], ◌∷◌, Option, Some, None, Result, Ok, Err, slice_get, slice_set, Contains}
+use Rattle.std.specs.Prelude.{◌≡◌, ◌⊎◌, ℕ, ℤ, negsuc, ◌+ℤ◌, ◌≤ℤ◌, int_lt, if◌then◌else◌, List, [], ◌∷◌, Option, Some, None, Result, Ok, Err, slice_get, slice_set, Contains}
 use Rattle.ic_base.specs.declared.datagram.Datagram.{Datagram}
 use Rattle.ic_base.specs.declared.datagram.Parcel.{Parcel}
 use Rattle.ic_law.specs.declared.history.Entry.{Entry}
@@ -9,7 +9,7 @@ use Rattle.ic_law.specs.Receiving.{IsTaking}
 use Rattle.ic_law.specs.Points.{IsEnded}
 use Rattle.ic_receiver.specs.Receiving.{Receiving, IsOver, IsEmpty, IsReady, HandsOver, Halts}
 use Rattle.ic_receiver.specs.Entries.{IsRefusing, IsHalting, list_of}
-use Rattle.ic_receiver.specs.Standing.{Stands, StandsOn, TakesNoMore, WaitsForNext, NotReady, TakesNow}
+use Rattle.ic_receiver.specs.Standing.{Stands, StandsOn, TakesNoMore, NotReady, TakesNow}
 use Rattle.ic_base.specs.declared.settings.Settings.{Settings}
 use Rattle.ic_places.specs.Ends.{receivers_of}
 use Rattle.ic_hub.specs.declared.take.Ranked.{Ranked}

@@ -1,12 +1,12 @@
 // Parcels that the slice takes, and connections that it halts.
 ghost use Rattle.std.specs.Prelude.{◌≡◌, ◌<◌, ◌++◌, [], ◌∷◌, ℕ, Some, All, length, slice_get, vec_len, vec_capacity, List, OnErr};
-ghost use Rattle.ic_receiver.specs.Entries.{list_of};
-ghost use Rattle.ic_hub.specs.Taking.{Takes, HaltsOne, TakesAt, HaltsAt, TakesAny, FindsFirst, IsFirstOf, Refuses, rank_of};
 ghost use Rattle.ic_law.specs.declared.history.Entry.{Entry};
 ghost use Rattle.ic_places.specs.Ends.{motions_of};
+ghost use Rattle.ic_receiver.specs.Entries.{list_of};
 ghost use Rattle.ic_hub.specs.Entries.{take_entry, take_from_entry, halt_entry};
 ghost use Rattle.ic_hub.specs.Standing.{Stands};
 ghost use Rattle.ic_hub.specs.Calls.{SamePlace};
+ghost use Rattle.ic_hub.specs.Taking.{Takes, HaltsOne, TakesAt, HaltsAt, rank_of, IsFirstOf, FindsFirst, Refuses, TakesAny};
 
 use crate::hub::Hub;
 use crate::query::Query;
@@ -23,13 +23,16 @@ struct Ranked {
     rank: i32,
 }
 
+/// How many segments there are, -1..=63: any number less this is below every number.
+const SEGMENTS: i32 = 65;
+
 /// Who comes first in cyclic order behind the segment served last has the least rank.
 fn rank(last: Option<SegId>, from: SegId) -> i32
     ensures { result ≡ rank_of last from }
 {
     let from = from.number();
     match last {
-        Some(last) if last.number() < from => from - 65,
+        Some(last) if last.number() < from => from - SEGMENTS,
         _ => from,
     }
 }
@@ -129,23 +132,16 @@ fn halt_one(alloc: Global, receiver: &mut Receiver) -> Result<Datagrams, HubNo>
 }
 
 impl Query {
-    fn take(
-        &mut self,
-        alloc: Global,
-        place: usize,
-    ) -> Result<(Parcel, Datagrams), HubNo>
+    /// A take of the receiver at this place.
+    fn take(&mut self, alloc: Global, place: usize) -> Result<(Parcel, Datagrams), HubNo>
         requires here { place < length self.old.receivers }
         ensures { TakesAt place self.old self.new result }
     {
         take_one(alloc, &mut self.receivers[place])
     }
 
-    /// A take of any sender of the motion at this place.
-    fn take_any(
-        &mut self,
-        alloc: Global,
-        motion: usize,
-    ) -> Result<(Parcel, Datagrams), HubNo>
+    /// A take of any sender of the motion at this place. What it takes is noted as served last.
+    fn take_any(&mut self, alloc: Global, motion: usize) -> Result<(Parcel, Datagrams), HubNo>
         requires here { motion < length (motions_of self.old.ends) }
         ensures { (number : ℕ) → slice_get (motions_of self.old.ends) motion ≡ Some number → TakesAny motion number self.old self.new result }
     {
@@ -158,6 +154,7 @@ impl Query {
         Ok((parcel, told))
     }
 
+    /// Halts the receiver at this place.
     fn halt(&mut self, alloc: Global, place: usize) -> Result<Datagrams, HubNo>
         requires here { place < length self.old.receivers }
         ensures { HaltsAt place self.old self.new result }
@@ -190,11 +187,7 @@ impl Hub {
     }
 
     /// The slice takes the next parcel of one sender.
-    pub fn take_from(
-        &mut self,
-        alloc: Global,
-        key: &ConnKey,
-    ) -> Result<(Parcel, Datagrams), HubNo>
+    pub fn take_from(&mut self, alloc: Global, key: &ConnKey) -> Result<(Parcel, Datagrams), HubNo>
         ensures err { OnErr result (self.new ≡ self.old) }
         ensures place { SamePlace self.old self.new }
         ensures stands { (h : List Entry) → Stands self.old h → Stands self.new (h ++ take_from_entry key.now result ∷ []) }

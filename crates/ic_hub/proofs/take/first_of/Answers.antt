@@ -1,7 +1,6 @@
-use Rattle.std.proofs.Common.{◌≡◌, ℤ, Some, None, ap, sym, subst, refl, ◌∙◌, arith}
+use Rattle.std.proofs.Common.{◌≡◌, Some, None, ap, sym, subst, refl, ◌∙◌, arith}
 use Rattle.std.specs.Prelude.{◌≤ℤ◌}
 use Rattle.std.proofs.lemmas.Int.{ints, to_z-of_z}
-use Rattle.std.proofs.lemmas.Grind.{common_steps}
 use Rattle.std.proofs.Common.{rules}
 use mir.Syntax.{w32}
 use mir.Val.{SFits}
@@ -27,8 +26,8 @@ returns-in_default c =
     let le : c.rank-rank.result ≤ℤ c.in-Some.found.rank = grind (arith, ints) in
     BecomesFirst (c.if-not-is_ready.ensures.ready refl)
     (λ found was. let one : Some c.in-Some.found ≡ Some found = sym c.in-Some.is ∙ was in
-      let same : c.in-Some.found ≡ found = cc in
-      subst (λ (x : Ranked). rank_of c.args.last c.args.receiver.now.end.key.from ≤ℤ x.rank) same (subst (λ z. z ≤ℤ c.in-Some.found.rank) is le))
+    let same : c.in-Some.found ≡ found = cc in
+    subst (λ (x : Ranked). rank_of c.args.last c.args.receiver.now.end.key.from ≤ℤ x.rank) same (subst (λ z. z ≤ℤ c.in-Some.found.rank) is le))
     _ refl (to_z-of_z w32 c.rank-rank.result g ∙ is) refl
 
 pub returns-in_default-2 : goal.returns-in_default-2

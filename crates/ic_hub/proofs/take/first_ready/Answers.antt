@@ -1,4 +1,4 @@
-use Rattle.std.proofs.Common.{◌≡◌, Some, None, sym, subst, take}
+use Rattle.std.proofs.Common.{sym, subst}
 use Rattle.std.proofs.lemmas.List.{take_all}
 use Rattle.ic_law.proofs.Lists.{Contains-none}
 use Rattle.ic_hub.specs.Taking.{Finds, FindsFirst}

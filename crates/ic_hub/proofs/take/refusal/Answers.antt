@@ -1,4 +1,4 @@
-use Rattle.std.proofs.Common.{◌≡◌, Some, inl, inr, refl, sym, subst, get_or}
+use Rattle.std.proofs.Common.{inl, inr, refl, sym, subst, get_or}
 use Rattle.std.specs.List.{Contains}
 use Rattle.std.proofs.lemmas.List.{take_all}
 use Rattle.std.proofs.lemmas.List.Elements.{Contains-get_or}
@@ -22,8 +22,8 @@ pub loop-place-preserved : goal.loop-place-preserved
 loop-place-preserved c = λ place r among at. elim (next_cases c.args.places.now c.loop-place.place-index place c.loop-place-test.true among) [
   | inl there ↦ c.loop-place.invariant place r there at
   | inr same ↦ (
-    let here = at_place c.args.receivers.now _ c.index-receivers-place.result (c.requires.within c.loop-place.place-index 0 c.loop-place-test.true) c.index-receivers-place.is in
-    subst TakesNoMore (is_it c.args.receivers.now _ place c.index-receivers-place.result r here same at) (c.if-not-is_over.ensures.over refl))
+      let here = at_place c.args.receivers.now _ c.index-receivers-place.result (c.requires.within c.loop-place.place-index 0 c.loop-place-test.true) c.index-receivers-place.is in
+      subst TakesNoMore (is_it c.args.receivers.now _ place c.index-receivers-place.result r here same at) (c.if-not-is_over.ensures.over refl))
 ]
 
 pub returns : goal.returns

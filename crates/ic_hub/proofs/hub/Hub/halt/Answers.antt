@@ -1,12 +1,10 @@
 use Rattle.std.proofs.Common.{◌≡◌, Some, ap, sym, subst, slice_get, set, length, arith}
 use Rattle.std.specs.Prelude.{OnErr}
 use Rattle.std.proofs.lemmas.Option.{slice_get_within}
-use Rattle.ic_law.specs.declared.history.Entry.{Entry}
 use Rattle.ic_hub.specs.contracts.hub.Hub.{the_view}
-use Rattle.ic_hub.specs.Hubbing.{Hubbing, Living, IsHub}
+use Rattle.ic_hub.specs.Hubbing.{Hubbing}
 use Rattle.ic_hub.specs.Standing.{Stands}
 use Rattle.ic_hub.specs.Finding.{ReceiverIs}
-use Rattle.ic_hub.specs.Entries.{halt_entry}
 use Rattle.ic_hub.proofs.Places.{Shaped}
 use Rattle.ic_hub.proofs.Shape.{shape_of}
 use Rattle.ic_hub.proofs.Receivers.{halt_end}

@@ -1,4 +1,4 @@
-use Rattle.std.proofs.Common.{◌≡◌, ℕ, ◌==◌, [], ◌∷◌, ◌++◌, Some, None, Err, ap, sym, subst, ◌∙◌, set, position}
+use Rattle.std.proofs.Common.{◌≡◌, ℕ, ◌==◌, [], ◌∷◌, ◌++◌, None, Err, ap, sym, subst, ◌∙◌, set, position}
 use Rattle.std.specs.Prelude.{OnErr}
 use Rattle.ic_places.specs.Ends.{motions_of}
 use Rattle.ic_hub.specs.contracts.hub.Hub.{the_view}
@@ -10,7 +10,7 @@ use Rattle.ic_hub.specs.Standing.{Stands}
 use Rattle.ic_hub.specs.Taking.{TakesAny}
 use Rattle.ic_hub.proofs.Places.{Shaped}
 use Rattle.ic_hub.proofs.Shape.{shape_of}
-use Rattle.ic_hub.proofs.TakingAny.{AtMotion, QueryAt, query_at, at_motion, no_query, no_motion, take_any_stands, take_any_err, take_any_hub}
+use Rattle.ic_hub.proofs.TakingAny.{AtMotion, query_at, at_motion, no_query, no_motion, take_any_stands, take_any_err, take_any_hub}
 use Rattle.ic_hub.proofs.hub.Hub.take.Goals as goal
 
 pub returns-in_default-clause-stands : goal.returns-in_default-clause-stands
@@ -23,7 +23,7 @@ returns-in_default-motion-clause-stands c = λ h stands.
     let none : position (λ (n : ℕ). n == c.args.motion) (motions_of c.index.result.now.ends) ≡ None = ap (λ (l : Living). position (λ (n : ℕ). n == c.args.motion) (motions_of l.ends)) (sym c.behind-self.view_is) ∙ sym c.in_default-motion.ensures.value in
     subst (λ (s : Hubbing). Stands s (h ++ take_entry c.args.query c.args.motion (Err (unknown c.args.query c.args.motion)) ∷ [])) c.self.view_is
     (no_motion (the_view c.self.inside) c.args.query c.args.motion c.in-Some.place c.index.result.now h (shape_of (the_view c.self.inside) c.self.inside.table c.self.invariant) at.here at.number none
-      (subst (λ s. Stands s h) (sym c.self.view_is) stands))
+    (subst (λ s. Stands s h) (sym c.self.view_is) stands))
 
 -- the query that is asked, at the place of the motion
 at : (c : goal.After-self-1) → AtMotion (the_view c.self.inside) c.args.query c.args.motion c.in-Some.place c.in-Some-motion.at c.index_mut.result.now

@@ -1,6 +1,7 @@
 use Rattle.std.proofs.Common.{◌≡◌, Some, ap, sym, subst, ◌∙◌, ◌<◌, length, slice_get, set}
 use Rattle.ic_hub.specs.Hubbing.{Living}
-use Rattle.ic_hub.proofs.Receivers.{at_place, living_with, halt_end}
+use Rattle.ic_hub.proofs.Moving.{receiver_living}
+use Rattle.ic_hub.proofs.Receivers.{at_place, halt_end}
 use Rattle.ic_hub.proofs.query.Query.halt.Goals as goal
 
 -- the receiver that stood at the place
@@ -10,7 +11,7 @@ here c =
     at_place c.self.inside.receivers.items c.args.place c.index_mut.result.now within c.index_mut.ensures.value
 
 pub invariant_of-self : goal.invariant_of-self
-invariant_of-self c = living_with _ c.args.place c.index_mut.result.now c.halt_one.new.receiver c.self.invariant (here c) (halt_end _ _ _ c.halt_one.ensures)
+invariant_of-self c = receiver_living _ c.args.place c.index_mut.result.now c.halt_one.new.receiver c.self.invariant (here c) (halt_end _ _ _ c.halt_one.ensures)
 
 pub returns : goal.returns
 returns c = record {
