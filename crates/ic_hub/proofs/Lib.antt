@@ -3,5 +3,9 @@ pub mod Shape
 pub mod Found
 pub mod Finds
 pub mod Moving
+pub mod Receivers
+pub mod Taking
 pub mod Putting
 pub mod Leaving
+pub mod Choosing
+pub mod TakingAny

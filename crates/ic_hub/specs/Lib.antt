@@ -5,3 +5,4 @@ pub mod Standing
 pub mod Calls
 pub mod Leaving
 pub mod Laws
+pub mod Taking

@@ -3,5 +3,6 @@ pub mod Shown
 mod Moving
 mod Came
 pub mod Taken
+mod Taken
 pub mod Others
 mod Made
