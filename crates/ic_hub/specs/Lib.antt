@@ -4,3 +4,4 @@ pub mod Finding
 pub mod Standing
 pub mod Calls
 pub mod Laws
+pub mod Coming
