@@ -1,0 +1,95 @@
+-- What each step of hearing a datagram gives, as it is.
+use Rattle.std.proofs.Common.{◌≡◌, ℕ, zero, suc, ◌<◌, List, [], ◌∷◌, set, map, length, Bool, true, false, Option, Some, None, Result, Ok, Err, is_err, refl, ap, sym, ◌∙◌, subst, slice_get, slice_index_or, IfOk, OnErr}
+use Rattle.std.proofs.lemmas.Option.{slice_get-get_or}
+use Rattle.std.specs.declared.alloc.AllocError.{AllocError}
+use Rattle.ic_base.specs.declared.datagram.Datagram.{Datagram}
+use Rattle.ic_header.specs.declared.header.Header.{Header}
+use Rattle.ic_header.specs.declared.flags.Flags.TheVariants.{Query}
+use Rattle.ic_law.specs.declared.history.Arrived.TheVariants.{Handled}
+use Rattle.ic_law.specs.Packets.{is_rows, is_last}
+use Rattle.ic_places.specs.Ends.{sending_ends, receiving_ends}
+use Rattle.ic_sender.specs.declared.send_no.SendNo.{SendNo}
+use Rattle.ic_sender.specs.Entries.{IsHearing as IsAnswered}
+use Rattle.ic_outgoing.specs.Outgoing.{OutgoingState, SameEnd}
+use Rattle.ic_outgoing.specs.Emitted.{AreOutgoing}
+use Rattle.ic_outgoing.specs.Standing.{StandsNext}
+use Rattle.ic_receiver.specs.Receiving.{Receiving, Hears, Stopped, Running, HearsQuery}
+use Rattle.ic_receiver.specs.Entries.{IsHearing, IsQuerying}
+use Rattle.ic_receiver.specs.Standing.{StandsOn}
+use Rattle.ic_hub.specs.Hubbing.{Living, IsLiving}
+use Rattle.ic_hub.specs.Coming.{Became, kept_of, Asks, WithRows, WithQuery, HearsForth, ForthWithout, Forth, HearsBack, BackWithout, Strays, Back, ComesToNone, NoneWithout}
+
+-- ---- no memory
+
+pub err_of : {T E : Type 0} (r : Result T E) → is_err r ≡ true → (e : E) × (r ≡ Err e)
+err_of (Ok x) h = let bad : false ≡ true = h in cc
+err_of (Err e) h = (e, refl)
+
+-- ---- lists
+
+-- what was read at a place stands there
+pub read_at : {A : Type 0} (xs : List A) (i : ℕ) (x : A) → i < length xs → x ≡ slice_index_or xs i x → slice_get xs i ≡ Some x
+read_at xs i x less is = slice_get-get_or xs i x less ∙ ap Some (sym is)
+
+map_with : {A B : Type 0} (f : A → B) (xs : List A) (i : ℕ) (x y : A) → slice_get xs i ≡ Some x → f y ≡ f x → map f (set xs i y) ≡ map f xs
+map_with f [] i x y h same = refl
+map_with f (z ∷ zs) zero x y h same = let is : z ≡ x = cc in ap (λ a. a ∷ map f zs) (same ∙ ap f (sym is))
+map_with f (z ∷ zs) (suc i) x y h same = ap (λ ys. f z ∷ ys) (map_with f zs i x y h same)
+
+-- ---- a receiver
+
+pub asks_rows : (head : Header) (body : List ℕ) (old new : Receiving) (r : Result (Option Datagram) AllocError) (last : Bool) → is_rows head.flags ≡ true → is_last head.flags ≡ last
+    → IfOk r (λ a. Hears old (record { seq = head.seq; last = last; payload = body }) a new) → IfOk r (λ a. StandsOn old new (IsHearing old.end.key (record { seq = head.seq; last = last; payload = body }) a))
+    → IfOk r (Asks head body old new)
+asks_rows head body old new (Ok a) last rows is hears stands =
+    WithRows rows (subst (λ b. Hears old (record { seq = head.seq; last = b; payload = body }) a new) (sym is) hears)
+    (subst (λ b. StandsOn old new (IsHearing old.end.key (record { seq = head.seq; last = b; payload = body }) a)) (sym is) stands)
+asks_rows head body old new (Err e) last rows is hears stands = hears
+
+pub asks_query : (head : Header) (body : List ℕ) (old new : Receiving) (r : Result (Option Datagram) AllocError) → head.flags ≡ Query → IfOk r (λ a. HearsQuery old head.seq a) → new ≡ old
+    → IfOk r (λ a. StandsOn old new (IsQuerying old.end.key head.seq a)) → IfOk r (Asks head body old new)
+asks_query head body old new (Ok a) query hears same stands = WithQuery query hears same stands
+asks_query head body old new (Err e) query hears same stands = hears
+
+pub hears_end : (s after : Receiving) (head : Header) (body : List ℕ) (a : Option Datagram) → Hears s (kept_of head body) a after → after.end ≡ s.end
+hears_end s after head body a (Stopped d halted is told same) = ap (λ (r : Receiving). r.end) same
+hears_end s after head body a (Running ring now runs hears same) = ap (λ (r : Receiving). r.end) same
+
+asks_end : (head : Header) (body : List ℕ) (old new : Receiving) (a : Option Datagram) → Asks head body old new a → new.end ≡ old.end
+asks_end head body old new a (WithRows rows hears stands) = hears_end old new head body a hears
+asks_end head body old new a (WithQuery query hears same stands) = ap (λ (r : Receiving). r.end) same
+
+pub forth_end : (head : Header) (body : List ℕ) (old new : Receiving) (r : Became) → HearsForth head body old new r → new.end ≡ old.end
+forth_end head body old new r (ForthWithout e is same) = ap (λ (x : Receiving). x.end) same
+forth_end head body old new r (Forth a is asks) = asks_end head body old new a asks
+
+pub forth_without : (head : Header) (body : List ℕ) (old new : Receiving) (r : Became) → is_err r ≡ true → new ≡ old → HearsForth head body old new r
+forth_without head body old new r fails same = let w = err_of r fails in ForthWithout w.0 w.1 same
+
+pub receiver_lives : (l : Living) (i : ℕ) (old new : Receiving) → IsLiving l → slice_get l.receivers i ≡ Some old → new.end ≡ old.end → IsLiving (record l { receivers = set l.receivers i new })
+receiver_lives l i old new living here same =
+    record { senders = living.senders; receivers = map_with (λ (r : Receiving). r.end) l.receivers i old new here same ∙ living.receivers; served = living.served }
+
+-- ---- a sender
+
+pub back_end : (head : Header) (body : List ℕ) (old new : OutgoingState) (r : Became) → HearsBack head body old new r → SameEnd old new
+back_end head body old new r (BackWithout e is same) = subst (λ o. SameEnd old o) (sym same) (record { end = refl; settings = refl })
+back_end head body old new r (Strays is same end stands) = end
+back_end head body old new r (Back ds is end now formed stands) = end
+
+pub back_now : (head : Header) (body : List ℕ) (old new : OutgoingState) (r : Became) → HearsBack head body old new r → new.now ≡ old.now
+back_now head body old new r (BackWithout e is same) = ap (λ (o : OutgoingState). o.now) same
+back_now head body old new r (Strays is same end stands) = ap (λ (o : OutgoingState). o.now) same
+back_now head body old new r (Back ds is end now formed stands) = now
+
+pub back_heard : (head : Header) (body : List ℕ) (old new : OutgoingState) (r : Result (List Datagram) SendNo) (ds : List Datagram) → r ≡ Ok ds → SameEnd old new → new.now ≡ old.now → IfOk r (AreOutgoing old.sending)
+    → StandsNext old new (IsAnswered old.sending.end.key head.flags head.seq head.extra body r) → HearsBack head body old new (Ok (Handled, ds))
+back_heard head body old new r ds is end now formed stands =
+    Back ds refl end now (subst (λ x. IfOk x (AreOutgoing old.sending)) is formed) (subst (λ x. StandsNext old new (IsAnswered old.sending.end.key head.flags head.seq head.extra body x)) is stands)
+
+pub back_without : (head : Header) (body : List ℕ) (old new : OutgoingState) (e : AllocError) (r : Result (List Datagram) SendNo) (why : SendNo) → r ≡ Err why → OnErr r (new ≡ old) → HearsBack head body old new (Err e)
+back_without head body old new e r why is same = BackWithout e refl (subst (λ x. OnErr x (new ≡ old)) is same)
+
+pub sender_lives : (l : Living) (i : ℕ) (old new : OutgoingState) → IsLiving l → slice_get l.senders i ≡ Some old → SameEnd old new → IsLiving (record l { senders = set l.senders i new })
+sender_lives l i old new living here same =
+    record { senders = map_with (λ (o : OutgoingState). o.sending.end) l.senders i old new here same.end ∙ living.senders; receivers = living.receivers; served = living.served }
