@@ -1,4 +1,7 @@
 pub mod Places
 pub mod Shape
+pub mod Found
+pub mod Finds
 pub mod Moving
 pub mod ComingSteps
+pub mod Putting

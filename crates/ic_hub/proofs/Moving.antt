@@ -1,19 +1,21 @@
 -- A hub stands on with an entry about one end, where that end's connection does.
 use Rattle.std.proofs.Common.{◌≡◌, ◌≢◌, ◌↔◌, ℕ, zero, suc, ◌+◌, ℤ, List, [], ◌∷◌, ◌++◌, set, map, Bool, true, false, ◌==◌, Option, Some, None, Result, Ok, refl, ap, sym, ◌∙◌, subst, arith, inl, inr, ◌⊎◌, slice_get, min, cond, ◌&&◌, length}
 use Rattle.std.specs.List.{AllByRecursion, Contains}
-use Rattle.std.proofs.lemmas.Bool.Decides.{Decides-int_eq}
+use Rattle.std.proofs.lemmas.Bool.Decides.{Decides-eqb, Decides-int_eq}
 use Rattle.ic_base.specs.declared.keys.ConnKey.{ConnKey}
 use Rattle.ic_base.specs.declared.keys.ConnEnd.{ConnEnd}
 use Rattle.ic_base.specs.declared.settings.Settings.{Settings}
 use Rattle.ic_base.specs.declared.datagram.Datagram.{Datagram}
 use Rattle.ic_base.specs.declared.datagram.Parcel.{Parcel}
-use Rattle.ic_law.specs.declared.history.HubAsk.TheVariants.{Begin, Put, Finish, Take, TakeFrom, Halt, Arrive, Leave}
+use Rattle.ic_law.specs.declared.history.HubAsk.TheVariants.{Begin, Put, Finish, Take, TakeFrom, Halt, Arrive, Clear, Leave}
 use Rattle.ic_law.specs.declared.history.HubReply.TheVariants.{Took, Memory}
 use Rattle.ic_law.specs.declared.history.Entry.{Entry}
 use Rattle.ic_law.specs.History.{emits, was_begun, leaves, left_by, left_of, takes, parcel_for, parcels_from}
 use Rattle.ic_law.specs.Points.{Place, place_at, IsFormed, IsLive, IsHere}
 use Rattle.ic_law.specs.Asking.{IsAllowed}
-use Rattle.ic_law.specs.Arriving.{IsServed, LastServed, IsGreatestLeft, AnswersTakeAny}
+use Rattle.ic_law.specs.declared.history.HubAsk.{HubAsk}
+use Rattle.ic_law.proofs.Lists.{Contains-none}
+use Rattle.ic_law.specs.Arriving.{IsUnknownKey, IsServed, LastServed, IsGreatestLeft, AnswersTakeAny}
 use Rattle.ic_law.specs.Emission.{clock_of}
 use Rattle.ic_law.specs.Hub.{HubPoint}
 use Rattle.ic_law.specs.Receiving.{Receives}
@@ -27,7 +29,7 @@ use Rattle.ic_outgoing.specs.Standing.{Stands as SenderStands}
 use Rattle.ic_sender.specs.Entries.{IsSilent}
 use Rattle.ic_sender.proofs.Beginning.{others_pass as sender_passes}
 use Rattle.ic_sender.proofs.Passing.{clock_stays, finished_stays}
-use Rattle.ic_ends.specs.Entries.{IsOurs, HasEnd, EndsKeep, AsksOf, OfPut, OfFinish, OfTakeFrom, OfHalt, OfTake, OfArrive, Concerns, IsNought}
+use Rattle.ic_ends.specs.Entries.{IsOurs, HasEnd, EndsKeep, AsksOf, OfPut, OfFinish, OfTakeFrom, OfHalt, OfTake, OfArrive, Concerns, IsNought, NoMemory}
 use Rattle.ic_ends.specs.Living.{BeginsNone, LivesOn}
 use Rattle.ic_ends.specs.Laws.{IsAbout, AboutEnd, AboutNone, Holds, Goes}
 use Rattle.ic_ends.proofs.Concerned.{still_then, concerned_passes}
@@ -42,6 +44,7 @@ use Rattle.ic_ends.proofs.Beside.{set_cases}
 use Rattle.ic_hub.specs.Hubbing.{Hubbing, Living, IsLiving, IsOfHub, place_in}
 use Rattle.ic_hub.specs.Standing.{LivingStands, IsTop, IsAmong, Stands}
 use Rattle.ic_hub.specs.Calls.{SamePlace}
+use Rattle.ic_hub.specs.Finding.{HasNo}
 use Rattle.ic_hub.proofs.Places.{Shaped, SenderOf, ReceiverOf, sender_of, receiver_of, end_of_sender, end_of_receiver, number_of, one_sender, one_receiver, all_at, contains_at}
 
 -- ---- lists
@@ -99,12 +102,12 @@ one_replaced live q l m here number ends =
 pub among_on : (live new : List Living) (query : ℕ) (ends : List ConnEnd) → SameQueries live new → IsAmong live query ends → IsAmong new query ends
 among_on live new query ends same a =
     let w = same.on a.at a.living a.here in
-    record { at = a.at; living = w.0; here = w.1.0; number = w.1.1.0 ∙ a.number; ends_are = w.1.1.1 ∙ a.ends_are }
+    record { at = a.at; living = w.0; here = w.1; number = w.2 ∙ a.number; ends_are = w.3 ∙ a.ends_are }
 
 pub among_back : (live new : List Living) (query : ℕ) (ends : List ConnEnd) → SameQueries live new → IsAmong new query ends → IsAmong live query ends
 among_back live new query ends same a =
     let w = same.back a.at a.living a.here in
-    record { at = a.at; living = w.0; here = w.1.0; number = sym w.1.1.0 ∙ a.number; ends_are = sym w.1.1.1 ∙ a.ends_are }
+    record { at = a.at; living = w.0; here = w.1; number = sym w.2 ∙ a.number; ends_are = sym w.3 ∙ a.ends_are }
 
 -- ---- each end keeps its points
 
@@ -237,13 +240,13 @@ other_stands s h e c side i x shaped stands here apart about unserved =
     record {
       senders = λ k o at.
         let end = end_of_sender x k o (shaped.living i x here) at in
-        let other = λ same. λ (b : side ≡ true). apart (number_of s i x o.sending.end shaped here end.has ∙ ap (λ (y : ConnKey). y.query) same) in
+        let other : o.sending.end.key ≡ c → side ≡ true → ⊥ = λ same b. apart (number_of s i x o.sending.end shaped here end.has ∙ ap (λ (y : ConnKey). y.query) same) in
         others_pass o h e ((concerned_passes (place_in s) c side h e o.sending.end about).0 other).silent (was.senders k o at);
       receivers = λ k r at.
         let end = end_of_receiver x k r (shaped.living i x here) at in
         let place = contains_at x.ends r.end end.has in
         let ours = all_at (IsOurs (place_in s)) x.ends place.0 r.end (shaped.of_hub i x here).ours place.1 in
-        let other = λ same. λ (b : side ≡ false). apart (number_of s i x r.end shaped here end.has ∙ ap (λ (y : ConnKey). y.query) same) in
+        let other : r.end.key ≡ c → side ≡ false → ⊥ = λ same b. apart (number_of s i x r.end shaped here end.has ∙ ap (λ (y : ConnKey). y.query) same) in
         stands_silent s.settings r h e ((concerned_passes (place_in s) c side h e r.end about).1 other ours.session (ours.receives_here end.side_is)) (was.receivers k r at);
       served = λ k motion last m at. served_before x.number motion h e last (unserved motion) (was.served k motion last m at);
     }
@@ -291,7 +294,7 @@ all_set P (y ∷ ys) (suc i) x all here = (all.0, all_set P ys i x all.1 here)
 map_set : {A B : Type 0} (f : A → B) (xs : List A) (i : ℕ) (x y : A) → slice_get xs i ≡ Some x → f y ≡ f x → map f (set xs i y) ≡ map f xs
 map_set f [] i x y h same = refl
 map_set f (z ∷ zs) zero x y h same = let is : z ≡ x = cc in ap (λ a. a ∷ map f zs) (same ∙ ap f (sym is))
-map_set f (z ∷ zs) (suc i) x y h same = ap (λ as. f z ∷ as) (map_set f zs i x y h same)
+map_set f (z ∷ zs) (suc i) x y h same = ap (λ rest. f z ∷ rest) (map_set f zs i x y h same)
 
 abbrev pub with_sender : Living → ℕ → OutgoingState → Living
 with_sender l i o = record l { senders = set l.senders i o }
@@ -299,12 +302,22 @@ with_sender l i o = record l { senders = set l.senders i o }
 abbrev pub with_receiver : Living → ℕ → Receiving → Living
 with_receiver l i r = record l { receivers = set l.receivers i r }
 
+-- a sender of the same end keeps the query whole
+pub sender_living : (l : Living) (i : ℕ) (old new : OutgoingState) → IsLiving l → slice_get l.senders i ≡ Some old → new.sending.end ≡ old.sending.end → IsLiving (with_sender l i new)
+sender_living l i old new living here same =
+    record { senders = map_set (λ (o : OutgoingState). o.sending.end) l.senders i old new here same ∙ living.senders; receivers = living.receivers; served = living.served }
+
+pub receiver_living : (l : Living) (i : ℕ) (old new : Receiving) → IsLiving l → slice_get l.receivers i ≡ Some old → new.end ≡ old.end → IsLiving (with_receiver l i new)
+receiver_living l i old new living here same =
+    record { senders = living.senders; receivers = map_set (λ (r : Receiving). r.end) l.receivers i old new here same ∙ living.receivers; served = living.served }
+
 -- a sender with its end, its settings and its tick keeps what is always true of its query
 pub sender_keeps : (place : Place) (tick : ℕ) (l : Living) (i : ℕ) (old new : OutgoingState) → IsLiving l → IsOfHub place tick l → slice_get l.senders i ≡ Some old → SameEnd old new → new.now ≡ old.now
     → IsLiving (with_sender l i new) × IsOfHub place tick (with_sender l i new)
 sender_keeps place tick l i old new living of_hub here same tick_is =
-    (record { senders = map_set (λ (o : OutgoingState). o.sending.end) l.senders i old new here same.end ∙ living.senders; receivers = living.receivers; served = living.served },
-    record {
+    let keeps = sender_living l i old new living here same.end in
+    (keeps, record {
+      living = keeps;
       ends = of_hub.ends;
       ours = of_hub.ours;
       settings = all_set _ l.senders i new of_hub.settings (same.settings ∙ all_at _ l.senders i old of_hub.settings here);
@@ -314,8 +327,8 @@ sender_keeps place tick l i old new living of_hub here same tick_is =
 pub receiver_keeps : (place : Place) (tick : ℕ) (l : Living) (i : ℕ) (old new : Receiving) → IsLiving l → IsOfHub place tick l → slice_get l.receivers i ≡ Some old → new.end ≡ old.end
     → IsLiving (with_receiver l i new) × IsOfHub place tick (with_receiver l i new)
 receiver_keeps place tick l i old new living of_hub here same =
-    (record { senders = living.senders; receivers = map_set (λ (r : Receiving). r.end) l.receivers i old new here same ∙ living.receivers; served = living.served },
-    record { ends = of_hub.ends; ours = of_hub.ours; settings = of_hub.settings; tick_is = of_hub.tick_is })
+    let keeps = receiver_living l i old new living here same in
+    (keeps, record { living = keeps; ends = of_hub.ends; ours = of_hub.ours; settings = of_hub.settings; tick_is = of_hub.tick_is })
 
 -- no sender is served by what a sending end is asked
 unserved : (place : Place) (c : ConnKey) (e : Entry) → AsksOf place c true e → (query motion : ℕ) (from : ℤ) → IsServed query motion e from → ⊥
@@ -355,14 +368,14 @@ sender_moved s h e q i l old new shaped stands here at same tick moved about all
         senders = λ k o found. elim (set_cases l.senders i k new o found) [
           | inl w ↦ subst (λ x. SenderStands x (h ++ e ∷ [])) (sym w.1) moved
           | inr w ↦ (
-            let other = λ key. λ (b : true ≡ true). w.0 (sym ((one_sender s q q k i l l o old shaped here here w.1 at key).place)) in
+            let other : o.sending.end.key ≡ old.sending.end.key → true ≡ true → ⊥ = λ key b. w.0 (sym ((one_sender s q q k i l l o old shaped here here w.1 at key).place)) in
             others_pass o h e ((concerned_passes (place_in s) old.sending.end.key true h e o.sending.end about).0 other).silent (was.senders k o w.1))
         ];
         receivers = λ k r found.
           let its = end_of_receiver l k r living found in
           let place = contains_at l.ends r.end its.has in
           let ours = all_at (IsOurs (place_in s)) l.ends place.0 r.end (shaped.of_hub q l here).ours place.1 in
-          let other = λ key. λ (b : true ≡ false). let bad : true ≡ false = b in cc in
+          let other : r.end.key ≡ old.sending.end.key → true ≡ false → ⊥ = λ key b. let bad : true ≡ false = b in cc in
           stands_silent s.settings r h e ((concerned_passes (place_in s) old.sending.end.key true h e r.end about).1 other ours.session (ours.receives_here its.side_is)) (was.receivers k r found);
         served = λ k motion last m found. served_before l.number motion h e last (λ from served. unserved (place_in s) old.sending.end.key e about.asks l.number motion from served) (was.served k motion last m found);
       };
@@ -385,10 +398,10 @@ receiver_moved s h e q i l old new served shaped stands here at same count moved
       number = refl;
       ends = refl;
       living = record { senders = keeps.0.senders; receivers = keeps.0.receivers; served = count ∙ living.served };
-      of_hub = record { ends = keeps.1.ends; ours = keeps.1.ours; settings = keeps.1.settings; tick_is = keeps.1.tick_is };
+      of_hub = record { living = record { senders = keeps.0.senders; receivers = keeps.0.receivers; served = count ∙ living.served }; ends = keeps.1.ends; ours = keeps.1.ours; settings = keeps.1.settings; tick_is = keeps.1.tick_is };
       stands = record {
         senders = λ k o found.
-          let other = λ key. λ (b : false ≡ true). let bad : false ≡ true = b in cc in
+          let other : o.sending.end.key ≡ old.end.key → false ≡ true → ⊥ = λ key b. let bad : false ≡ true = b in cc in
           others_pass o h e ((concerned_passes (place_in s) old.end.key false h e o.sending.end about).0 other).silent (was.senders k o found);
         receivers = λ k r found. elim (set_cases l.receivers i k new r found) [
           | inl w ↦ subst (λ x. ReceiverStands s.settings x (h ++ e ∷ [])) (sym w.1) moved
@@ -396,7 +409,7 @@ receiver_moved s h e q i l old new served shaped stands here at same count moved
             let its = end_of_receiver l k r living w.1 in
             let place = contains_at l.ends r.end its.has in
             let ours = all_at (IsOurs (place_in s)) l.ends place.0 r.end (shaped.of_hub q l here).ours place.1 in
-            let other = λ key. λ (b : false ≡ false). w.0 (sym ((one_receiver s q q k i l l r old shaped here here w.1 at key).place)) in
+            let other : r.end.key ≡ old.end.key → false ≡ false → ⊥ = λ key b. w.0 (sym ((one_receiver s q q k i l l r old shaped here here w.1 at key).place)) in
             stands_silent s.settings r h e ((concerned_passes (place_in s) old.end.key false h e r.end about).1 other ours.session (ours.receives_here its.side_is)) (was.receivers k r w.1))
         ];
         served = serves;
@@ -410,8 +423,8 @@ takes_one : (e : Entry) (query motion : ℕ) (from : ℤ) → IsServed query mot
 takes_one e query motion from served none =
     let c : ConnKey = record { session = 0; query = query; motion = motion; from = from; to = from } in
     let is : takes c e ≡ parcel_for c (Take query motion) (Took (Ok (served.parcel, served.ds))) = ap (λ a. parcel_for c a e.reply) served.ask ∙ ap (λ r. parcel_for c (Take query motion) r) served.reply in
-    let one = ap (λ b. cond (b && (motion == motion)) (parcels_from from (served.parcel ∷ [])) []) (eqb-refl query)
-        ∙ ap (λ b. cond b (parcels_from from (served.parcel ∷ [])) []) (eqb-refl motion)
+    let one = ap (λ b. cond (b && (motion == motion)) (parcels_from from (served.parcel ∷ [])) []) ((Decides-eqb query query).1 refl)
+        ∙ ap (λ b. cond b (parcels_from from (served.parcel ∷ [])) []) ((Decides-eqb motion motion).1 refl)
         ∙ ap (λ b. cond b (served.parcel ∷ []) []) ((Decides-int_eq served.parcel.from from).1 (sym served.sender)) in
     let bad : served.parcel ∷ [] ≡ [] = sym one ∙ sym is ∙ none in
     cc
@@ -453,3 +466,22 @@ nought_stands s h e shaped stands about begins left allowed formed =
       about = AboutNone about;
       point = λ keeps. nought_point (place_in s) h e about (record { law = stands.goes.law; keeps = keeps; allowed = allowed; formed = formed });
     })
+
+-- ---- where an end isn't
+
+-- where no live query has an end of this key and side, none is here
+pub unknown_key : (side : Bool) (s : Hubbing) (key : ConnKey) (h : List Entry) → HasNo side s key → Stands s h → IsUnknownKey side key h
+unknown_key side s key h none stands end here same sending =
+    let a = (stands.live end.key.query here.ends).0 here.live in
+    none a.at a.living a.here end (subst (λ x. Contains x end) (sym a.ends_are) here.stands) same sending
+
+-- what stands at a place, put there again, leaves the list as it is
+pub set_same : {A : Type 0} (xs : List A) (i : ℕ) (x : A) → slice_get xs i ≡ Some x → set xs i x ≡ xs
+set_same [] i x h = refl
+set_same (y ∷ ys) zero x h = let same : y ≡ x = cc in ap (λ z. z ∷ ys) (sym same)
+set_same (y ∷ ys) (suc i) x h = ap (λ zs. y ∷ zs) (set_same ys i x h)
+
+-- want of memory leaves the hub standing as it is, whatever was asked but whether a query is clear
+pub memory_stands : (s : Hubbing) (h : List Entry) (ask : HubAsk) → Shaped s → Stands s h → ((query : ℕ) → ask ≢ Clear query) → leaves (record { ask = ask; reply = Memory }) ≡ [] → Stands s (h ++ record { ask = ask; reply = Memory } ∷ [])
+memory_stands s h ask shaped stands asks left =
+    nought_stands s h (record { ask = ask; reply = Memory }) shaped stands (NoMemory asks refl) (λ query ends asked begun. let bad : false ≡ true = begun in cc) left (λ given. absurd (given refl)) (λ d c. absurd (Contains-none d c))

@@ -36,7 +36,7 @@ pub at_contains : {A : Type 0} (xs : List A) (i : ℕ) (x : A) → slice_get xs 
 at_contains xs i x h = (i, slice_get_within xs i x h, get_or_from_slice_get xs i x x h)
 
 pub contains_at : {A : Type 0} (xs : List A) (x : A) → Contains xs x → (i : ℕ) × (slice_get xs i ≡ Some x)
-contains_at xs x c = (c.0, slice_get-get_or xs c.0 x c.1.0 ∙ ap Some c.1.1)
+contains_at xs x c = (c.0, slice_get-get_or xs c.0 x c.1 ∙ ap Some c.2)
 
 -- ---- what is always true of a hub, of each query
 
@@ -58,7 +58,7 @@ pub sender_of : (l : Living) (end : ConnEnd) → IsLiving l → Contains l.ends 
 sender_of l end living has sends =
     let there = contains_at (sending_ends l.ends) end ((ends_have_their_sides l.ends end).0.1 (has, sends)) in
     let found = at_map (λ (o : OutgoingState). o.sending.end) l.senders there.0 end (ap (λ xs. slice_get xs there.0) living.senders ∙ there.1) in
-    record { at = there.0; sender = found.0; here = found.1.0; is = found.1.1 }
+    record { at = there.0; sender = found.0; here = found.1; is = found.2 }
 
 -- the connection of a receiving end
 pub record ReceiverOf (l : Living) (end : ConnEnd) : Type 0 where
@@ -71,7 +71,7 @@ pub receiver_of : (l : Living) (end : ConnEnd) → IsLiving l → Contains l.end
 receiver_of l end living has receives =
     let there = contains_at (receiving_ends l.ends) end ((ends_have_their_sides l.ends end).1.1 (has, receives)) in
     let found = at_map (λ (r : Receiving). r.end) l.receivers there.0 end (ap (λ xs. slice_get xs there.0) living.receivers ∙ there.1) in
-    record { at = there.0; receiver = found.0; here = found.1.0; is = found.1.1 }
+    record { at = there.0; receiver = found.0; here = found.1; is = found.2 }
 
 -- ---- ends of connections
 
@@ -94,39 +94,49 @@ end_of_receiver l i r living here =
 
 -- ---- each end has one connection
 
--- an element that passes stands among all
-in_all : {A : Type 0} (test : A → Bool) (xs : List A) (j : ℕ) (b : A) → slice_get (filter test xs) j ≡ Some b → (front : List A) × (back : List A) × (xs ≡ front ++ b ∷ back)
-in_all test [] j b h = let bad : None ≡ Some b = h in cc
-in_all {A = A} test (x ∷ xs) j b h = by (test x) refl j h
-  where
-    more : (k : ℕ) → slice_get (filter test xs) k ≡ Some b → (front : List A) × (back : List A) × (x ∷ xs ≡ front ++ b ∷ back)
-    more k at = let w = in_all test xs k b at in (x ∷ w.0, w.1.0, ap (λ ys. x ∷ ys) w.1.1)
+-- the list is cut at this element
+record CutAt {A : Type 0} (xs : List A) (b : A) : Type 0 where
+  pub front : List A
+  pub back : List A
+  pub all : xs ≡ front ++ b ∷ back
 
-    by : (p : Bool) → test x ≡ p → (k : ℕ) → slice_get (cond p (x ∷ filter test xs) (filter test xs)) k ≡ Some b → (front : List A) × (back : List A) × (x ∷ xs ≡ front ++ b ∷ back)
-    by true e zero at = let same : x ≡ b = cc in ([], xs, ap (λ y. y ∷ xs) same)
-    by true e (suc k) at = more k at
-    by false e k at = more k at
+cut_more : {A : Type 0} (x : A) (xs : List A) (b : A) → CutAt xs b → CutAt (x ∷ xs) b
+cut_more x xs b w = record { front = x ∷ w.front; back = w.back; all = ap (λ ys. x ∷ ys) w.all }
+
+-- an element that passes stands among all
+in_all : {A : Type 0} (test : A → Bool) (xs : List A) (j : ℕ) (b : A) → slice_get (filter test xs) j ≡ Some b → CutAt xs b
+in_all test [] j b h = let bad : None ≡ Some b = h in cc
+in_all {A = A} test (x ∷ xs) j b h = by (in_all test xs) (test x) refl j h
+  where
+    by : ((k : ℕ) (b : A) → slice_get (filter test xs) k ≡ Some b → CutAt xs b) → (p : Bool) → test x ≡ p → (k : ℕ) → slice_get (cond p (x ∷ filter test xs) (filter test xs)) k ≡ Some b → CutAt (x ∷ xs) b
+    by more true e zero at = let same : x ≡ b = cc in record { front = []; back = xs; all = ap (λ y. y ∷ xs) same }
+    by more true e (suc k) at = cut_more x xs b (more k b at)
+    by more false e k at = cut_more x xs b (more k b at)
+
+-- the list is cut at these two
+record CutTwice {A : Type 0} (xs : List A) (a b : A) : Type 0 where
+  pub front : List A
+  pub between : List A
+  pub back : List A
+  pub all : xs ≡ front ++ a ∷ between ++ b ∷ back
+
+twice_more : {A : Type 0} (x : A) (xs : List A) (a b : A) → CutTwice xs a b → CutTwice (x ∷ xs) a b
+twice_more x xs a b w = record { front = x ∷ w.front; between = w.between; back = w.back; all = ap (λ ys. x ∷ ys) w.all }
 
 -- two that pass stand among all in their order
-in_order : {A : Type 0} (test : A → Bool) (xs : List A) (i j : ℕ) (a b : A) → i < j → slice_get (filter test xs) i ≡ Some a → slice_get (filter test xs) j ≡ Some b
-    → (front : List A) × (between : List A) × (back : List A) × (xs ≡ front ++ a ∷ between ++ b ∷ back)
+in_order : {A : Type 0} (test : A → Bool) (xs : List A) (i j : ℕ) (a b : A) → i < j → slice_get (filter test xs) i ≡ Some a → slice_get (filter test xs) j ≡ Some b → CutTwice xs a b
 in_order test [] i j a b less h k = let bad : None ≡ Some a = h in cc
-in_order {A = A} test (x ∷ xs) i j a b less h k = by (test x) refl i j less h k
+in_order {A = A} test (x ∷ xs) i j a b less h k = by (λ m n. in_order test xs m n a b) (λ n. in_all test xs n b) (test x) refl i j less h k
   where
-    Cut : Type 0
-    Cut = (front : List A) × (between : List A) × (back : List A) × (x ∷ xs ≡ front ++ a ∷ between ++ b ∷ back)
-
-    more : (m n : ℕ) → m < n → slice_get (filter test xs) m ≡ Some a → slice_get (filter test xs) n ≡ Some b → Cut
-    more m n l at bt = let w = in_order test xs m n a b l at bt in (x ∷ w.0, w.1.0, w.1.1.0, ap (λ ys. x ∷ ys) w.1.1.1)
-
-    by : (p : Bool) → test x ≡ p → (m n : ℕ) → m < n → slice_get (cond p (x ∷ filter test xs) (filter test xs)) m ≡ Some a → slice_get (cond p (x ∷ filter test xs) (filter test xs)) n ≡ Some b → Cut
-    by true e m zero l at bt = absurd (omega (arith, l))
-    by true e zero (suc n) l at bt =
+    by : ((m n : ℕ) → m < n → slice_get (filter test xs) m ≡ Some a → slice_get (filter test xs) n ≡ Some b → CutTwice xs a b) → ((n : ℕ) → slice_get (filter test xs) n ≡ Some b → CutAt xs b)
+        → (p : Bool) → test x ≡ p → (m n : ℕ) → m < n → slice_get (cond p (x ∷ filter test xs) (filter test xs)) m ≡ Some a → slice_get (cond p (x ∷ filter test xs) (filter test xs)) n ≡ Some b → CutTwice (x ∷ xs) a b
+    by more one true e m zero l at bt = absurd (omega (arith, l))
+    by more one true e zero (suc n) l at bt =
         let same : x ≡ a = cc in
-        let w = in_all test xs n b bt in
-        ([], w.0, w.1.0, ap (λ y. y ∷ xs) same ∙ ap (λ ys. a ∷ ys) w.1.1)
-    by true e (suc m) (suc n) l at bt = more m n (omega (arith, l)) at bt
-    by false e m n l at bt = more m n l at bt
+        let w = one n bt in
+        record { front = []; between = w.front; back = w.back; all = ap (λ y. y ∷ xs) same ∙ ap (λ ys. a ∷ ys) w.all }
+    by more one true e (suc m) (suc n) l at bt = twice_more x xs a b (more m n (omega (arith, l)) at bt)
+    by more one false e m n l at bt = twice_more x xs a b (more m n l at bt)
 
 pub apart_or_same : (m n : ℕ) → (m < n) ⊎ ((n < m) ⊎ (m ≡ n))
 apart_or_same zero zero = inr (inr refl)
@@ -137,11 +147,11 @@ apart_or_same (suc m) (suc n) = elim (apart_or_same m n) [ inl l ↦ inl (omega 
 -- two ends of one side and one key are one
 one_place : (place : Place) (query : ℕ) (ends : List ConnEnd) (test : ConnEnd → Bool) (side : Bool) (i j : ℕ) (a b : ConnEnd)
     → AreEnds place query ends → slice_get (filter test ends) i ≡ Some a → slice_get (filter test ends) j ≡ Some b → a.sending ≡ side → b.sending ≡ side → a.key ≡ b.key → i ≡ j
-one_place place query ends test side i j a b are at bt as bs key =
+one_place place query ends test side i j a b are at bt sa sb key =
     elim (apart_or_same i j) [
-      | inl l ↦ (let w = in_order test ends i j a b l at bt in absurd (are.once w.0 w.1.0 w.1.1.0 a b w.1.1.1 key (as ∙ sym bs)))
+      | inl l ↦ (let w = in_order test ends i j a b l at bt in absurd (are.once w.front w.between w.back a b w.all key (sa ∙ sym sb)))
       | inr o ↦ elim o [
-        | inl g ↦ (let w = in_order test ends j i b a g bt at in absurd (are.once w.0 w.1.0 w.1.1.0 b a w.1.1.1 (sym key) (bs ∙ sym as)))
+        | inl g ↦ (let w = in_order test ends j i b a g bt at in absurd (are.once w.front w.between w.back b a w.all (sym key) (sb ∙ sym sa)))
         | inr same ↦ same
       ]
     ]
@@ -151,7 +161,7 @@ pub number_of : (s : Hubbing) (q : ℕ) (l : Living) (end : ConnEnd) → Shaped 
 number_of s q l end shaped here has = sym ((shaped.of_hub q l here).ends.each end has).query_is
 
 -- where two connections are at one place of one query
-record IsOne (q r i j : ℕ) : Type 0 where
+pub record IsOne (q r i j : ℕ) : Type 0 where
   pub query : q ≡ r
   pub place : i ≡ j
 

@@ -1,9 +1,9 @@
 -- What is always true of a hub, where one query is replaced.
-use Rattle.std.proofs.Common.{◌≡◌, ◌<◌, ℕ, zero, suc, List, [], ◌∷◌, set, ⊤, cond, ◌==◌, Option, Some, None, refl, ap, sym, ◌∙◌, subst, arith, inl, inr, ◌⊎◌, slice_get}
+use Rattle.std.proofs.Common.{◌≡◌, ◌<◌, ℕ, zero, suc, List, [], ◌∷◌, set, cond, ◌==◌, Option, Some, None, refl, ap, sym, ◌∙◌, subst, arith, inl, inr, ◌⊎◌, slice_get}
 use Rattle.std.specs.List.{AllByRecursion}
 use Rattle.ic_conntab.specs.Table.{Table}
 use Rattle.ic_places.specs.Ends.{keys_of}
-use Rattle.ic_hub.specs.Hubbing.{Hubbing, Living, IsLiving, IsOfHub, keys_in, Ascend, IsHub, place_in}
+use Rattle.ic_hub.specs.Hubbing.{Hubbing, Living, IsOfHub, keys_in, Ascend, IsHub, place_in}
 use Rattle.ic_hub.proofs.Places.{Shaped, all_at, apart_or_same}
 
 -- ---- numbers that ascend
@@ -25,11 +25,11 @@ apart_at live i j a b up ai bj same =
       ]
     ]
 
--- the shape of a hub, where each of its queries has its own
-pub shape_of : (s : Hubbing) (table : Table) → IsHub s table → ((i : ℕ) (l : Living) → slice_get s.live i ≡ Some l → IsLiving l) → Shaped s
-shape_of s table is living =
+-- the shape of a hub
+pub shape_of : (s : Hubbing) (table : Table) → IsHub s table → Shaped s
+shape_of s table is =
     record {
-      living = living;
+      living = λ i l at. (all_at (IsOfHub (place_in s) s.tick) s.live i l is.each at).living;
       of_hub = λ i l at. all_at (IsOfHub (place_in s) s.tick) s.live i l is.each at;
       apart = λ i j a b ai bj same. apart_at s.live i j a b is.ascend ai bj same;
     }

@@ -58,6 +58,7 @@ pub record IsLiving (l : Living) : Type 0 where
 
 -- the ends of a query are ends here, and its connections are of this hub's settings and at its tick
 pub record IsOfHub (place : Place) (tick : ℕ) (l : Living) : Type 0 where
+  pub living : IsLiving l
   pub ends : AreEnds place l.number l.ends
   pub ours : AllByRecursion (IsOurs place) l.ends
   pub settings : AllByRecursion (λ (o : OutgoingState). o.sending.settings ≡ place.settings) l.senders

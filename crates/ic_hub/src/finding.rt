@@ -51,6 +51,7 @@ impl Hub {
     pub(crate) fn sender_of(&self, key: &ConnKey) -> Option<(usize, usize)>
         ensures { FindsSender self.now key.now result }
     {
+        let _table = &self.table;
         match self.find(key) {
             Found::Here { query, sides } => match sides.sender {
                 Some(place) => Some((query, place)),
@@ -64,6 +65,7 @@ impl Hub {
     pub(crate) fn receiver_of(&self, key: &ConnKey) -> Option<(usize, usize)>
         ensures { FindsReceiver self.now key.now result }
     {
+        let _table = &self.table;
         match self.find(key) {
             Found::Here { query, sides } => match sides.receiver {
                 Some(place) => Some((query, place)),

@@ -23,11 +23,10 @@ impl Query {
         requires most { FitsAll self.old (length chunk.now) }
         ensures { PutsOn place (λ c answer e. IsPutting c chunk.now answer e) self.old self.new result }
     {
-        let sender = &mut self.senders[place];
-        if sender.is_finished() {
+        if self.senders[place].is_finished() {
             return Err(HubNo::Memory);
         }
-        put_answer(sender.put(alloc, chunk))
+        put_answer(self.senders[place].put(alloc, chunk))
     }
 
     /// Puts the end of stream on the sender at this place, once.
@@ -35,11 +34,10 @@ impl Query {
         requires here { place < length self.old.senders }
         ensures { PutsOn place (λ c answer e. IsFinishing c answer e) self.old self.new result }
     {
-        let sender = &mut self.senders[place];
-        if sender.is_finished() {
+        if self.senders[place].is_finished() {
             return Err(HubNo::Memory);
         }
-        put_answer(sender.finish(alloc))
+        put_answer(self.senders[place].finish(alloc))
     }
 }
 
