@@ -1,13 +1,15 @@
 -- What each step of hearing a datagram gives, as it is.
-use Rattle.std.proofs.Common.{◌≡◌, ℕ, zero, suc, ◌<◌, List, [], ◌∷◌, set, map, length, Bool, true, false, Option, Some, None, Result, Ok, Err, is_err, refl, ap, sym, ◌∙◌, subst, slice_get, slice_index_or, IfOk, OnErr}
-use Rattle.std.proofs.lemmas.Option.{slice_get-get_or}
+use Rattle.std.proofs.Common.{◌≡◌, ℕ, ◌<◌, List, [], ◌∷◌, set, length, Bool, true, false, Option, Some, None, Result, Ok, Err, is_err, refl, ap, sym, ◌∙◌, subst, slice_get, slice_index_or, IfOk, OnErr}
+use Rattle.std.proofs.lemmas.Option.{slice_get-get_or, slice_get_within}
 use Rattle.std.specs.declared.alloc.AllocError.{AllocError}
+use Rattle.ic_base.specs.declared.keys.ConnKey.{ConnKey}
 use Rattle.ic_base.specs.declared.datagram.Datagram.{Datagram}
 use Rattle.ic_header.specs.declared.header.Header.{Header}
 use Rattle.ic_header.specs.declared.flags.Flags.TheVariants.{Query}
 use Rattle.ic_law.specs.declared.history.Arrived.TheVariants.{Handled}
-use Rattle.ic_law.specs.Packets.{is_rows, is_last}
-use Rattle.ic_places.specs.Ends.{sending_ends, receiving_ends}
+use Rattle.ic_law.specs.Packets.{key_of, is_rows, is_last}
+use Rattle.ic_places.specs.declared.slots.Sides.{Sides}
+use Rattle.ic_conntab.specs.Table.{Table}
 use Rattle.ic_sender.specs.declared.send_no.SendNo.{SendNo}
 use Rattle.ic_sender.specs.Entries.{IsHearing as IsAnswered}
 use Rattle.ic_outgoing.specs.Outgoing.{OutgoingState, SameEnd}
@@ -16,8 +18,14 @@ use Rattle.ic_outgoing.specs.Standing.{StandsNext}
 use Rattle.ic_receiver.specs.Receiving.{Receiving, Hears, Stopped, Running, HearsQuery}
 use Rattle.ic_receiver.specs.Entries.{IsHearing, IsQuerying}
 use Rattle.ic_receiver.specs.Standing.{StandsOn}
-use Rattle.ic_hub.specs.Hubbing.{Living, IsLiving}
-use Rattle.ic_hub.specs.Coming.{Became, kept_of, Asks, WithRows, WithQuery, HearsForth, ForthWithout, Forth, HearsBack, BackWithout, Strays, Back, ComesToNone, NoneWithout}
+use Rattle.ic_hub.specs.Hubbing.{Hubbing, Living, IsOfHub, IsHub, place_in}
+use Rattle.ic_hub.specs.declared.finding.Found.TheVariants.{Here}
+use Rattle.ic_hub.specs.Finding.{IsFound, SenderIs, ReceiverIs}
+use Rattle.ic_hub.specs.Coming.{Became, kept_of, Asks, WithRows, WithQuery, HearsForth, ForthWithout, Forth, HearsBack, BackWithout, Strays, Back, ReceiverHears, SenderHears}
+use Rattle.ic_hub.proofs.Places.{all_at}
+use Rattle.ic_hub.proofs.Shape.{shape_of, hub_with}
+use Rattle.ic_hub.proofs.Finds.{finds_sender, finds_receiver}
+use Rattle.ic_hub.proofs.Moving.{receiver_keeps, sender_keeps}
 
 -- ---- no memory
 
@@ -31,10 +39,8 @@ err_of (Err e) h = (e, refl)
 pub read_at : {A : Type 0} (xs : List A) (i : ℕ) (x : A) → i < length xs → x ≡ slice_index_or xs i x → slice_get xs i ≡ Some x
 read_at xs i x less is = slice_get-get_or xs i x less ∙ ap Some (sym is)
 
-map_with : {A B : Type 0} (f : A → B) (xs : List A) (i : ℕ) (x y : A) → slice_get xs i ≡ Some x → f y ≡ f x → map f (set xs i y) ≡ map f xs
-map_with f [] i x y h same = refl
-map_with f (z ∷ zs) zero x y h same = let is : z ≡ x = cc in ap (λ a. a ∷ map f zs) (same ∙ ap f (sym is))
-map_with f (z ∷ zs) (suc i) x y h same = ap (λ ys. f z ∷ ys) (map_with f zs i x y h same)
+pub same_at : {A : Type 0} (xs : List A) (i : ℕ) (a b : A) → slice_get xs i ≡ Some a → slice_get xs i ≡ Some b → a ≡ b
+same_at xs i a b at bt = let both : Some a ≡ Some b = sym at ∙ bt in cc
 
 -- ---- a receiver
 
@@ -66,10 +72,6 @@ forth_end head body old new r (Forth a is asks) = asks_end head body old new a a
 pub forth_without : (head : Header) (body : List ℕ) (old new : Receiving) (r : Became) → is_err r ≡ true → new ≡ old → HearsForth head body old new r
 forth_without head body old new r fails same = let w = err_of r fails in ForthWithout w.0 w.1 same
 
-pub receiver_lives : (l : Living) (i : ℕ) (old new : Receiving) → IsLiving l → slice_get l.receivers i ≡ Some old → new.end ≡ old.end → IsLiving (record l { receivers = set l.receivers i new })
-receiver_lives l i old new living here same =
-    record { senders = living.senders; receivers = map_with (λ (r : Receiving). r.end) l.receivers i old new here same ∙ living.receivers; served = living.served }
-
 -- ---- a sender
 
 pub back_end : (head : Header) (body : List ℕ) (old new : OutgoingState) (r : Became) → HearsBack head body old new r → SameEnd old new
@@ -90,6 +92,35 @@ back_heard head body old new r ds is end now formed stands =
 pub back_without : (head : Header) (body : List ℕ) (old new : OutgoingState) (e : AllocError) (r : Result (List Datagram) SendNo) (why : SendNo) → r ≡ Err why → OnErr r (new ≡ old) → HearsBack head body old new (Err e)
 back_without head body old new e r why is same = BackWithout e refl (subst (λ x. OnErr x (new ≡ old)) is same)
 
-pub sender_lives : (l : Living) (i : ℕ) (old new : OutgoingState) → IsLiving l → slice_get l.senders i ≡ Some old → SameEnd old new → IsLiving (record l { senders = set l.senders i new })
-sender_lives l i old new living here same =
-    record { senders = map_with (λ (o : OutgoingState). o.sending.end) l.senders i old new here same.end ∙ living.senders; receivers = living.receivers; served = living.served }
+-- ---- the hub
+
+-- the receiver that is found for a header's connection
+pub receiver_there : (s : Hubbing) (table : Table) (head : Header) (query place : ℕ) (sides : Sides) → IsHub s table → IsFound s (key_of head) (Here query sides) → sides.receiver ≡ Some place → ReceiverIs s (key_of head) query place
+receiver_there s table head query place sides is found at = finds_receiver s (key_of head) query place sides (shape_of s table is) found at
+
+pub sender_there : (s : Hubbing) (table : Table) (head : Header) (query place : ℕ) (sides : Sides) → IsHub s table → IsFound s (key_of head) (Here query sides) → sides.sender ≡ Some place → SenderIs s (key_of head) query place
+sender_there s table head query place sides is found at = finds_sender s (key_of head) query place sides (shape_of s table is) found at
+
+-- a place that is found is one of the query's receivers
+pub receiver_within : (s : Hubbing) (key : ConnKey) (query place : ℕ) (l : Living) → ReceiverIs s key query place → slice_get s.live query ≡ Some l → place < length l.receivers
+receiver_within s key query place l found here =
+    slice_get_within l.receivers place found.receiver (ap (λ (x : Living). slice_get x.receivers place) (same_at s.live query l found.living here found.live) ∙ found.here)
+
+pub sender_within : (s : Hubbing) (key : ConnKey) (query place : ℕ) (l : Living) → SenderIs s key query place → slice_get s.live query ≡ Some l → place < length l.senders
+sender_within s key query place l found here =
+    slice_get_within l.senders place found.sender (ap (λ (x : Living). slice_get x.senders place) (same_at s.live query l found.living here found.live) ∙ found.here)
+
+-- the hub keeps what is always true of it
+pub receiver_hub : (s : Hubbing) (table : Table) (query place : ℕ) (head : Header) (body : List ℕ) (l m : Living) (r : Became) → IsHub s table → slice_get s.live query ≡ Some l → ReceiverHears place head body l m r
+    → IsHub (record s { live = set s.live query m }) table
+receiver_hub s table query place head body l m r is here hears =
+    let was = all_at (IsOfHub (place_in s) s.tick) s.live query l is.each here in
+    let keeps = receiver_keeps (place_in s) s.tick l place hears.old hears.new was.living was hears.here (forth_end head body hears.old hears.new r hears.hears) in
+    hub_with s table query l m is here (ap (λ (x : Living). x.number) hears.is) (ap (λ (x : Living). x.ends) hears.is) (subst (IsOfHub (place_in s) s.tick) (sym hears.is) keeps.1)
+
+pub sender_hub : (s : Hubbing) (table : Table) (query place : ℕ) (head : Header) (body : List ℕ) (l m : Living) (r : Became) → IsHub s table → slice_get s.live query ≡ Some l → SenderHears place head body l m r
+    → IsHub (record s { live = set s.live query m }) table
+sender_hub s table query place head body l m r is here hears =
+    let was = all_at (IsOfHub (place_in s) s.tick) s.live query l is.each here in
+    let keeps = sender_keeps (place_in s) s.tick l place hears.old hears.new was.living was hears.here (back_end head body hears.old hears.new r hears.hears) (back_now head body hears.old hears.new r hears.hears) in
+    hub_with s table query l m is here (ap (λ (x : Living). x.number) hears.is) (ap (λ (x : Living). x.ends) hears.is) (subst (IsOfHub (place_in s) s.tick) (sym hears.is) keeps.1)

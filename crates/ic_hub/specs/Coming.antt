@@ -17,7 +17,7 @@ use Rattle.ic_law.specs.Packets.{key_of, is_rows, is_last, goes_forth, IsSegment
 use Rattle.ic_law.specs.Points.{IsDirected}
 use Rattle.ic_law.specs.Arriving.{turned_header}
 use Rattle.ic_conntab.specs.Table.{is_past}
-use Rattle.ic_places.specs.Ends.{keys_of, sender_at, receiver_at}
+use Rattle.ic_places.specs.Ends.{keys_of}
 use Rattle.ic_places.specs.declared.slots.Sides.{Sides}
 use Rattle.ic_sender.specs.declared.send_no.SendNo.TheVariants.{Stray}
 use Rattle.ic_sender.specs.Entries.{IsHearing as IsAnswered}
@@ -27,8 +27,9 @@ use Rattle.ic_outgoing.specs.Standing.{StandsNext}
 use Rattle.ic_receiver.specs.Receiving.{Receiving, Hears, HearsQuery}
 use Rattle.ic_receiver.specs.Entries.{IsHearing, IsQuerying}
 use Rattle.ic_receiver.specs.Standing.{StandsOn}
+use Rattle.ic_hub.specs.declared.finding.Found.TheVariants.{Here}
 use Rattle.ic_hub.specs.Hubbing.{Hubbing, Living}
-use Rattle.ic_hub.specs.Finding.{IsNotLive}
+use Rattle.ic_hub.specs.Finding.{IsNotLive, IsFound}
 
 -- what became of a datagram, and what is emitted; or no memory
 abbrev pub Became : Type 0
@@ -136,20 +137,11 @@ pub data ComesToQuery (s : Hubbing) (query : ℕ) (sides : Sides) (head : Header
   NoReceiver : goes_forth head.flags ≡ true → sides.receiver ≡ None → result ≡ Ok (Dropped cause.Foreign, []) → after ≡ s → ComesToQuery s query sides head body result after
   NoSender : goes_forth head.flags ≡ false → sides.sender ≡ None → result ≡ Ok (Dropped cause.Foreign, []) → after ≡ s → ComesToQuery s query sides head body result after
 
--- the sides of this connection's ends at a live query
-pub record AreSides (s : Hubbing) (key : ConnKey) (query : ℕ) (sides : Sides) : Type 0 where
-  pub living : Living
-  pub here : slice_get s.live query ≡ Some living
-  pub number : living.number ≡ key.query
-  pub has : Contains (keys_of living.ends) key
-  pub sender : sides.sender ≡ sender_at living.ends key
-  pub receiver : sides.receiver ≡ receiver_at living.ends key
-
 -- what a datagram that reads as a packet makes of the hub
 pub data Comes (s : Hubbing) (d : Datagram) (head : Header) (body : List ℕ) (result : Became) (after : Hubbing) : Type 0 where
   ToNobody : IsOfNone s d head → result ≡ Ok (Dropped cause.Foreign, []) → after ≡ s → Comes s d head body result after
   ToNone : IsAddressed s.at d head → head.session ≡ s.session → IsNotLive s head.query → ComesToNone s.at d head (is_past s.top head.query) result → after ≡ s → Comes s d head body result after
-  ToQuery : IsAddressed s.at d head → head.session ≡ s.session → (query : ℕ) (sides : Sides) → AreSides s (key_of head) query sides → ComesToQuery s query sides head body result after
+  ToQuery : IsAddressed s.at d head → (query : ℕ) (sides : Sides) → IsFound s (key_of head) (Here query sides) → ComesToQuery s query sides head body result after
       → Comes s d head body result after
 
 -- what any datagram makes of it, before a dropped one is counted

@@ -7,7 +7,8 @@ ghost use Rattle.ic_law.specs.Points.{IsDirected};
 ghost use Rattle.ic_hub.specs.Entries.{arrive_entry};
 ghost use Rattle.ic_hub.specs.Standing.{Stands};
 ghost use Rattle.ic_hub.specs.Calls.{SamePlace, CountsDrop};
-ghost use Rattle.ic_hub.specs.Coming.{NamesKey, Addresses, turns, TurnsBack, ComesToNone, ComesToQuery, AreSides, Asks, HearsForth, HearsBack, ReceiverHears, SenderHears, Comes, Arrives, told_of, counted};
+ghost use Rattle.ic_hub.specs.Finding.{IsFound};
+ghost use Rattle.ic_hub.specs.Coming.{NamesKey, Addresses, turns, TurnsBack, ComesToNone, ComesToQuery, Asks, HearsForth, HearsBack, ReceiverHears, SenderHears, Comes, Arrives, told_of, counted};
 
 use crate::finding::Found;
 use crate::hub::Hub;
@@ -240,7 +241,7 @@ impl Hub {
         head: &Header,
         body: &[u8],
     ) -> Result<(Arrived, Datagrams), AllocError>
-        requires sides { AreSides self.old (key_of head.now) query sides }
+        requires found { IsFound self.old (key_of head.now) (Found.Here query sides) }
         requires allowed { AllowsBody head.now.flags (length body.now) }
         requires fits { 64 + length body.now < 2 ^ 32 }
         ensures { ComesToQuery self.old query sides head.now body.now result self.new }
