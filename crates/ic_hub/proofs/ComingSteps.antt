@@ -1,12 +1,16 @@
 -- What each step of hearing a datagram gives, as it is.
-use Rattle.std.proofs.Common.{◌≡◌, ℕ, ◌<◌, List, [], ◌∷◌, set, length, Bool, true, false, Option, Some, None, Result, Ok, Err, is_err, refl, ap, sym, ◌∙◌, subst, slice_get, slice_index_or, IfOk, OnErr}
+use Rattle.std.proofs.Common.{◌≡◌, ℕ, ℤ, ◌+◌, ◌^◌, ◌<◌, ◌++◌, List, [], ◌∷◌, set, length, Bool, true, false, Option, Some, None, Result, Ok, Err, is_err, refl, ap, sym, ◌∙◌, subst, slice_get, slice_index_or, IfOk, OnErr}
 use Rattle.std.proofs.lemmas.Option.{slice_get-get_or, slice_get_within}
+use Rattle.std.proofs.lemmas.List.{length-append}
 use Rattle.std.specs.declared.alloc.AllocError.{AllocError}
 use Rattle.ic_base.specs.declared.keys.ConnKey.{ConnKey}
 use Rattle.ic_base.specs.declared.datagram.Datagram.{Datagram}
 use Rattle.ic_header.specs.declared.header.Header.{Header}
 use Rattle.ic_header.specs.declared.flags.Flags.TheVariants.{Query}
-use Rattle.ic_law.specs.declared.history.Arrived.TheVariants.{Handled}
+use Rattle.ic_header.specs.Spelling.{Heads, written}
+use Rattle.ic_header.proofs.Joining.{length-written}
+use Rattle.ic_law.specs.declared.history.Arrived.TheVariants.{Handled, Dropped}
+use Rattle.ic_law.specs.declared.history.DropCause.TheVariants as cause
 use Rattle.ic_law.specs.Packets.{key_of, is_rows, is_last}
 use Rattle.ic_places.specs.declared.slots.Sides.{Sides}
 use Rattle.ic_conntab.specs.Table.{Table}
@@ -20,8 +24,9 @@ use Rattle.ic_receiver.specs.Entries.{IsHearing, IsQuerying}
 use Rattle.ic_receiver.specs.Standing.{StandsOn}
 use Rattle.ic_hub.specs.Hubbing.{Hubbing, Living, IsOfHub, IsHub, place_in}
 use Rattle.ic_hub.specs.declared.finding.Found.TheVariants.{Here}
-use Rattle.ic_hub.specs.Finding.{IsFound, SenderIs, ReceiverIs}
-use Rattle.ic_hub.specs.Coming.{Became, kept_of, Asks, WithRows, WithQuery, HearsForth, ForthWithout, Forth, HearsBack, BackWithout, Strays, Back, ReceiverHears, SenderHears}
+use Rattle.ic_hub.specs.declared.finding.Found.TheVariants as says
+use Rattle.ic_hub.specs.Finding.{IsFound, OfOther, NoSuchKey, OfEnded, OfUnbegun, There, SenderIs, ReceiverIs}
+use Rattle.ic_hub.specs.Coming.{Became, kept_of, Asks, WithRows, WithQuery, HearsForth, ForthWithout, Forth, HearsBack, BackWithout, Strays, Back, ReceiverHears, SenderHears, IsAddressed, Addresses, NoSegment, NotHere, Misdirected, Addressed, OtherSession, NoKey, ComesToNone, Comes, ToNobody, ToNone}
 use Rattle.ic_hub.proofs.Places.{all_at}
 use Rattle.ic_hub.proofs.Shape.{shape_of, hub_with}
 use Rattle.ic_hub.proofs.Finds.{finds_sender, finds_receiver}
@@ -124,3 +129,45 @@ sender_hub s table query place head body l m r is here hears =
     let was = all_at (IsOfHub (place_in s) s.tick) s.live query l is.each here in
     let keeps = sender_keeps (place_in s) s.tick l place hears.old hears.new was.living was hears.here (back_end head body hears.old hears.new r hears.hears) (back_now head body hears.old hears.new r hears.hears) in
     hub_with s table query l m is here (ap (λ (x : Living). x.number) hears.is) (ap (λ (x : Living). x.ends) hears.is) (subst (IsOfHub (place_in s) s.tick) (sym hears.is) keeps.1)
+
+-- ---- where it goes
+
+some_one : {A : Type 0} (a b : A) → Some a ≡ Some b → a ≡ b
+some_one a b h = cc
+
+-- a datagram whose connection is named leads here
+pub addressed_key : (at : ℤ) (d : Datagram) (head : Header) (key : ConnKey) → Addresses at d head (Some key) → IsAddressed at d head × (key ≡ key_of head)
+addressed_key at d head key (NoSegment apart none) = let bad : Some key ≡ None = none in cc
+addressed_key at d head key (NotHere apart none) = let bad : Some key ≡ None = none in cc
+addressed_key at d head key (Misdirected apart none) = let bad : Some key ≡ None = none in cc
+addressed_key at d head key (Addressed leads same) = (leads, some_one key (key_of head) same)
+
+pub comes_foreign : (s : Hubbing) (d : Datagram) (head : Header) (body : List ℕ) (r : Became) → IsFound s (key_of head) says.Foreign → r ≡ Ok (Dropped cause.Foreign, []) → Comes s d head body r s
+comes_foreign s d head body r (OfOther other is) drops = ToNobody (OtherSession other) drops refl
+comes_foreign s d head body r (NoSuchKey session i l at number none is) drops = ToNobody (NoKey i l at number none) drops refl
+comes_foreign s d head body r (OfEnded session none past is) drops = let bad : says.Foreign ≡ says.Ended = is in cc
+comes_foreign s d head body r (OfUnbegun session none past is) drops = let bad : says.Foreign ≡ says.NotBegun = is in cc
+comes_foreign s d head body r (There session i l at number has sides sender receiver is) drops = let bad : says.Foreign ≡ says.Here i sides = is in cc
+
+pub comes_ended : (s : Hubbing) (d : Datagram) (head : Header) (body : List ℕ) (r : Became) → IsFound s (key_of head) says.Ended → IsAddressed s.at d head → ComesToNone s.at d head true r → Comes s d head body r s
+comes_ended s d head body r (OfOther other is) leads turns = let bad : says.Ended ≡ says.Foreign = is in cc
+comes_ended s d head body r (NoSuchKey session i l at number none is) leads turns = let bad : says.Ended ≡ says.Foreign = is in cc
+comes_ended s d head body r (OfEnded session none past is) leads turns = ToNone leads session none (subst (λ b. ComesToNone s.at d head b r) (sym past) turns) refl
+comes_ended s d head body r (OfUnbegun session none past is) leads turns = let bad : says.Ended ≡ says.NotBegun = is in cc
+comes_ended s d head body r (There session i l at number has sides sender receiver is) leads turns = let bad : says.Ended ≡ says.Here i sides = is in cc
+
+pub comes_unbegun : (s : Hubbing) (d : Datagram) (head : Header) (body : List ℕ) (r : Became) → IsFound s (key_of head) says.NotBegun → IsAddressed s.at d head → ComesToNone s.at d head false r → Comes s d head body r s
+comes_unbegun s d head body r (OfOther other is) leads turns = let bad : says.NotBegun ≡ says.Foreign = is in cc
+comes_unbegun s d head body r (NoSuchKey session i l at number none is) leads turns = let bad : says.NotBegun ≡ says.Foreign = is in cc
+comes_unbegun s d head body r (OfEnded session none past is) leads turns = let bad : says.NotBegun ≡ says.Ended = is in cc
+comes_unbegun s d head body r (OfUnbegun session none past is) leads turns = ToNone leads session none (subst (λ b. ComesToNone s.at d head b r) (sym past) turns) refl
+comes_unbegun s d head body r (There session i l at number has sides sender receiver is) leads turns = let bad : says.NotBegun ≡ says.Here i sides = is in cc
+
+-- ---- reading
+
+-- what is read fits
+pub heads_fits : (head : Header) (body bytes : List ℕ) → Heads head body bytes → 64 + length body < 2 ^ 32
+heads_fits head body bytes heads =
+    let size : length bytes ≡ 64 + length body = ap length heads.spelled ∙ length-append (written head) body ∙ ap (λ n. n + length body) (length-written head) in
+    let small : head.len < 2 ^ 32 = heads.in_range.words.13 in
+    subst (λ n. n < 2 ^ 32) (heads.len ∙ size) small

@@ -106,7 +106,7 @@ pub data Addresses (at : ℤ) (d : Datagram) (head : Header) (key : Option ConnK
 pub data IsOfNone (s : Hubbing) (d : Datagram) (head : Header) : Type 0 where
   Astray : Addresses s.at d head None → IsOfNone s d head
   OtherSession : head.session ≢ s.session → IsOfNone s d head
-  NoSuchKey : (i : ℕ) (l : Living) → slice_get s.live i ≡ Some l → l.number ≡ head.query → (Contains (keys_of l.ends) (key_of head) → ⊥) → IsOfNone s d head
+  NoKey : (i : ℕ) (l : Living) → slice_get s.live i ≡ Some l → l.number ≡ head.query → (Contains (keys_of l.ends) (key_of head) → ⊥) → IsOfNone s d head
 
 -- the answer to what asks of a query that isn't live: Stop where it has ended
 abbrev pub turns : Bool → Flags
