@@ -7,7 +7,7 @@ use Rattle.ic_base.specs.declared.keys.ConnKey.{ConnKey}
 use Rattle.ic_base.specs.declared.datagram.Datagram.{Datagram}
 use Rattle.ic_header.specs.declared.header.Header.{Header}
 use Rattle.ic_header.specs.declared.flags.Flags.TheVariants.{Query}
-use Rattle.ic_header.specs.Spelling.{Heads, written}
+use Rattle.ic_header.specs.Spelling.{Heads, words_of, written}
 use Rattle.ic_header.proofs.Joining.{length-written}
 use Rattle.ic_law.specs.declared.history.Arrived.TheVariants.{Handled, Dropped}
 use Rattle.ic_law.specs.declared.history.DropCause.TheVariants as cause
@@ -169,5 +169,5 @@ comes_unbegun s d head body r (There session i l at number has sides sender rece
 pub heads_fits : (head : Header) (body bytes : List ℕ) → Heads head body bytes → 64 + length body < 2 ^ 32
 heads_fits head body bytes heads =
     let size : length bytes ≡ 64 + length body = ap length heads.spelled ∙ length-append (written head) body ∙ ap (λ n. n + length body) (length-written head) in
-    let small : head.len < 2 ^ 32 = heads.in_range.words.13 in
+    let small : head.len < 2 ^ 32 = all_at (λ (w : ℕ). w < 2 ^ 32) (words_of head) 13 head.len heads.in_range.words refl in
     subst (λ n. n < 2 ^ 32) (heads.len ∙ size) small

@@ -5,3 +5,4 @@ pub mod Finds
 pub mod Moving
 pub mod ComingSteps
 pub mod Putting
+pub mod ComingSame
