@@ -9,3 +9,5 @@ pub mod Putting
 pub mod Leaving
 pub mod Choosing
 pub mod TakingAny
+pub mod ComingSteps
+pub mod ComingSame

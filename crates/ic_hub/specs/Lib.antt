@@ -6,3 +6,4 @@ pub mod Calls
 pub mod Leaving
 pub mod Laws
 pub mod Taking
+pub mod Coming
