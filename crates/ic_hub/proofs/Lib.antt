@@ -4,3 +4,4 @@ pub mod Found
 pub mod Finds
 pub mod Moving
 pub mod Putting
+mod Ticking
