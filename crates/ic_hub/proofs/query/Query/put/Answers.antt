@@ -1,16 +1,16 @@
 use Rattle.std.proofs.Common.{◌≡◌, false, Some, ap, sym, ◌∙◌, slice_get, slice_index_or}
 use Rattle.ic_outgoing.specs.Outgoing.{OutgoingState}
 use Rattle.ic_hub.specs.Hubbing.{Living}
-use Rattle.ic_hub.specs.Calls.{Behind, Answered}
-use Rattle.ic_hub.proofs.Putting.{at_index, set_in}
+use Rattle.ic_hub.specs.Calls.{Answered}
+use Rattle.ic_hub.proofs.Putting.{at_index, behind, set_in}
 use Rattle.ic_hub.proofs.Moving.{sender_living}
 use Rattle.ic_hub.proofs.query.Query.put.Goals as goal
 
 pub returns-then-is_finished : goal.returns-then-is_finished
 returns-then-is_finished c =
     let senders : c.args.self.now.senders ≡ c.self.inside.senders.items = ap (λ (l : Living). l.senders) (sym c.self.view_is) in
-    Behind c.index.result.now (at_index c.args.self.now.senders c.args.place c.index.result.now c.requires.here (c.index.ensures ∙ ap (λ xs. slice_index_or xs c.args.place c.index.result.now) (sym senders)))
-    (sym c.is_finished.ensures.value ∙ c.if-is_finished.true) refl refl
+    behind c.args.place _ c.args.self.now c.index.result.now (at_index c.args.self.now.senders c.args.place c.index.result.now c.requires.here (c.index.ensures ∙ ap (λ xs. slice_index_or xs c.args.place c.index.result.now) (sym senders)))
+    (sym c.is_finished.ensures.value ∙ c.if-is_finished.true)
 
 pub invariant_of-self : goal.invariant_of-self
 invariant_of-self c =
