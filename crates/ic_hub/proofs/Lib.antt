@@ -11,3 +11,4 @@ pub mod Choosing
 pub mod TakingAny
 pub mod ComingSteps
 pub mod ComingSame
+mod Ticking

@@ -4,6 +4,7 @@ pub mod Finding
 pub mod Standing
 pub mod Calls
 pub mod Leaving
+pub mod Ticking
 pub mod Laws
 pub mod Taking
 pub mod Coming
