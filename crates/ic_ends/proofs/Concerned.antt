@@ -1,33 +1,32 @@
 -- An entry about one end leaves every other end standing.
-use Rattle.std.proofs.Common.{◌≡◌, ℕ, List, [], ◌∷◌, ◌++◌, Bool, true, false, not, ℤ, cond, ◌&&◌, ◌||◌, ◌==◌, Option, Some, None, Ok, Err, refl, ap, sym, ◌∙◌, subst, inl, inr, ◌⊎◌, arith}
-use Rattle.std.specs.List.{Contains, flat_map, list_any}
+use Rattle.std.proofs.Common.{◌≡◌, ℕ, List, [], ◌∷◌, Bool, true, false, not, ℤ, cond, ◌&&◌, ◌==◌, Some, Ok, Err, refl, ap, sym, ◌∙◌, subst, inl, inr}
+use Rattle.std.specs.List.{Contains, list_any}
 use Rattle.std.specs.Ordering.{int_eq}
 use Rattle.std.proofs.lemmas.Bool.Decides.{Decides-eqb, Decides-int_eq}
 use Rattle.ic_base.specs.declared.keys.ConnKey.{ConnKey}
 use Rattle.ic_base.specs.declared.keys.ConnEnd.{ConnEnd}
 use Rattle.ic_base.specs.declared.datagram.Datagram.{Datagram}
-use Rattle.ic_base.specs.declared.datagram.Parcel.{Parcel}
 use Rattle.ic_base.specs.Keys.{key_eq}
-use Rattle.ic_base.proofs.SameKeys.{key_eq-tells, Decides-key_eq}
+use Rattle.ic_base.proofs.SameKeys.{key_eq-tells}
 use Rattle.ic_header.specs.declared.flags.Flags.{Flags}
 use Rattle.ic_header.specs.declared.flags.Flags.TheVariants.{Query, Ack, Stop, Disorder, Duplicate}
 use Rattle.ic_law.specs.declared.history.HubAsk.{HubAsk}
-use Rattle.ic_law.specs.declared.history.HubAsk.TheVariants.{Begin, Put, Finish, Take, TakeFrom, Halt, Arrive, Tick, Clear, Leave}
+use Rattle.ic_law.specs.declared.history.HubAsk.TheVariants.{Put, Finish, Take, TakeFrom, Halt, Arrive}
 use Rattle.ic_law.specs.declared.history.HubReply.{HubReply}
 use Rattle.ic_law.specs.declared.history.HubReply.TheVariants.{Begun, Gave, Took, Came, Ticked, Cleared, Left, Memory}
 use Rattle.ic_law.specs.declared.history.Entry.{Entry}
 use Rattle.ic_law.specs.Packets.{Packet, RowPacket, packet_of, key_of, goes_forth}
 use Rattle.ic_law.specs.History.{emits, rows_in, puts, chunk_put, finishes, is_finish, hears, heard_by, was_given, was_handled, takes, parcel_for, parcels_from, parcels_in, stores, stored_by, halts, is_halt, datagrams_of, datagram_tells_stored}
-use Rattle.ic_law.specs.Points.{Place, Emits, IsDirected, IsHere}
+use Rattle.ic_law.specs.Points.{Place, Emits}
 use Rattle.ic_law.specs.Emission.{queries_in, ticks_by}
-use Rattle.ic_law.specs.Hub.{Kind, Taking, Ticking, kind_asked, kind_replied, IsReplyTo}
+use Rattle.ic_law.specs.Hub.{Ticking, kind_asked, IsReplyTo}
 use Rattle.ic_law.proofs.Lists.{Contains-head}
 use Rattle.ic_law.proofs.Readings.{rows_in-reads, rows_go_forth}
-use Rattle.ic_sender.specs.Entries.{IsNothingOf, IsSilent, IsBefore}
+use Rattle.ic_sender.specs.Entries.{IsNothingOf, IsSilent}
 use Rattle.ic_receiver.specs.Entries.{IsSilent as IsSilentReceiving}
-use Rattle.ic_ends.specs.Entries.{IsPacketOf, AsksOf, OfPut, OfFinish, OfTakeFrom, OfTake, OfHalt, OfArrive, Concerns}
+use Rattle.ic_ends.specs.Entries.{AsksOf, OfPut, OfFinish, OfTakeFrom, OfTake, OfHalt, OfArrive, Concerns}
 use Rattle.ic_ends.specs.Laws.{PassesSending, ConcernedPasses}
-use Rattle.ic_ends.proofs.Telling.{rows_not, queries_not_of, answer_not, flat_none, flag_of_true, emits_of, one_packet}
+use Rattle.ic_ends.proofs.Telling.{rows_not, queries_not_of, answer_not, flat_none, emits_of, one_packet}
 
 -- ---- keys
 
@@ -50,10 +49,6 @@ pub record SendsNone (k : ConnKey) (e : Entry) : Type 0 where
 and_no : (a b : Bool) → (a ≡ true → ⊥) → (a && b) ≡ false
 and_no true b apart = absurd (apart refl)
 and_no false b apart = refl
-
-cond_no : {A : Type 0} (a : Bool) (x : A) → (a ≡ true → ⊥) → cond a (x ∷ []) [] ≡ []
-cond_no true x apart = absurd (apart refl)
-cond_no false x apart = refl
 
 cond_same : {A : Type 0} (a : Bool) (l : List A) → l ≡ [] → cond a l [] ≡ []
 cond_same true l none = none
@@ -175,6 +170,10 @@ pub record ReceivesNone (k : ConnKey) (e : Entry) : Type 0 where
   pub stores_none : stores k e ≡ []
   pub halts_none : halts k e ≡ false
 
+cond_not : {A : Type 0} (b : Bool) (l : List A) → (b ≡ true → ⊥) → cond b l [] ≡ []
+cond_not true l apart = absurd (apart refl)
+cond_not false l apart = refl
+
 pub receives_none : (place : Place) (c k : ConnKey) (side : Bool) (e : Entry) → AsksOf place c side e → (k ≡ c → side ≡ false → ⊥) → k.session ≡ place.session → k.to ≡ place.at → ReceivesNone k e
 receives_none place c k side e (OfPut sends chunk ask) apart session to =
     record { takes_none = ap (λ a. parcel_for k a e.reply) ask; stores_none = ap (λ a. stored_by k a e.reply) ask; halts_none = ap (λ a. is_halt k a e.reply) ask }
@@ -185,10 +184,6 @@ receives_none place c k side e (OfTakeFrom receives ask) apart session to = reco
   stores_none = ap (λ a. stored_by k a e.reply) ask;
   halts_none = ap (λ a. is_halt k a e.reply) ask;
 }
-  where
-    cond_not : (b : Bool) (l : List Parcel) → (b ≡ true → ⊥) → cond b l [] ≡ []
-    cond_not true l apart = absurd (apart refl)
-    cond_not false l apart = refl
 receives_none place c k side e (OfHalt receives ask) apart session to = record {
   takes_none = ap (λ a. parcel_for k a e.reply) ask;
   stores_none = ap (λ a. stored_by k a e.reply) ask;
@@ -217,6 +212,38 @@ receives_none place c k side e (OfArrive d ask is directed) apart session to = r
     receives : (b : Bool) → not b ≡ true → b ≡ false
     receives true x = sym x
     receives false x = refl
+
+-- nor of any connection of another query
+pub receives_apart : (place : Place) (c k : ConnKey) (side : Bool) (e : Entry) → AsksOf place c side e → (k.query ≡ c.query → ⊥) → ReceivesNone k e
+receives_apart place c k side e (OfTake receives in_session here parcel ds ask reply from) apart = record {
+  takes_none = ap (λ a. parcel_for k a e.reply) ask ∙ by (c.query == k.query) (c.motion == k.motion) refl;
+  stores_none = ap (λ a. stored_by k a e.reply) ask;
+  halts_none = ap (λ a. is_halt k a e.reply) ask;
+}
+  where
+    by : (x y : Bool) → (c.query == k.query) ≡ x → cond (x && y) (parcels_from k.from (parcels_in e.reply)) [] ≡ []
+    by true y q = absurd (apart (sym ((Decides-eqb c.query k.query).0 q)))
+    by false y q = refl
+receives_apart place c k side e (OfPut sends chunk ask) apart =
+    record { takes_none = ap (λ a. parcel_for k a e.reply) ask; stores_none = ap (λ a. stored_by k a e.reply) ask; halts_none = ap (λ a. is_halt k a e.reply) ask }
+receives_apart place c k side e (OfFinish sends ask) apart =
+    record { takes_none = ap (λ a. parcel_for k a e.reply) ask; stores_none = ap (λ a. stored_by k a e.reply) ask; halts_none = ap (λ a. is_halt k a e.reply) ask }
+receives_apart place c k side e (OfTakeFrom receives ask) apart = record {
+  takes_none = ap (λ a. parcel_for k a e.reply) ask ∙ cond_not (key_eq c k) (parcels_in e.reply) (λ same. apart (ap (λ (x : ConnKey). x.query) (sym (key_eq-tells c k same))));
+  stores_none = ap (λ a. stored_by k a e.reply) ask;
+  halts_none = ap (λ a. is_halt k a e.reply) ask;
+}
+receives_apart place c k side e (OfHalt receives ask) apart = record {
+  takes_none = ap (λ a. parcel_for k a e.reply) ask;
+  stores_none = ap (λ a. stored_by k a e.reply) ask;
+  halts_none = ap (λ a. is_halt k a e.reply) ask ∙ and_no (key_eq c k) (was_given e.reply) (λ same. apart (ap (λ (x : ConnKey). x.query) (sym (key_eq-tells c k same))));
+}
+receives_apart place c k side e (OfArrive d ask is directed) apart = record {
+  takes_none = ap (λ a. parcel_for k a e.reply) ask;
+  stores_none = ap (λ a. stored_by k a e.reply) ask
+      ∙ cond_same (list_any datagram_tells_stored (datagrams_of e.reply)) _ (rows_not k d is.packet is.reads (λ key forth. apart (ap (λ (x : ConnKey). x.query) (sym key ∙ is.key))));
+  halts_none = ap (λ a. is_halt k a e.reply) ask;
+}
 
 -- asks of a receiving end
 record AsksReceiving (k : ConnKey) (ask : HubAsk) : Type 0 where

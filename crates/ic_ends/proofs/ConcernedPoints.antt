@@ -1,13 +1,10 @@
 -- An entry about one end that is here has the points of a hub.
-use Rattle.std.proofs.Common.{◌≡◌, ◌≢◌, ℕ, List, [], ◌∷◌, ◌++◌, Bool, true, false, not, cond, Option, Some, None, Ok, Err, refl, ap, sym, ◌∙◌, subst, inl, inr, ◌⊎◌}
-use Rattle.std.specs.List.{Contains, flat_map}
+use Rattle.std.proofs.Common.{◌≡◌, ℕ, List, [], ◌∷◌, ◌++◌, Bool, true, false, not, Some, Err, refl, ap, sym, ◌∙◌, subst, inl, inr, ◌⊎◌}
 use Rattle.ic_base.specs.declared.keys.ConnKey.{ConnKey}
 use Rattle.ic_base.specs.declared.keys.ConnEnd.{ConnEnd}
 use Rattle.ic_base.specs.declared.datagram.Datagram.{Datagram}
-use Rattle.ic_base.specs.declared.datagram.Parcel.{Parcel}
 use Rattle.ic_base.specs.Keys.{key_eq}
 use Rattle.ic_base.proofs.SameKeys.{key_eq-tells, Decides-key_eq}
-use Rattle.ic_header.specs.declared.header.Header.{Header}
 use Rattle.ic_header.specs.declared.flags.Flags.{Flags}
 use Rattle.ic_law.specs.declared.history.HubAsk.{HubAsk}
 use Rattle.ic_law.specs.declared.history.HubAsk.TheVariants.{Begin, Put, Finish, Take, TakeFrom, Halt, Arrive, Tick, Clear, Leave}
@@ -16,19 +13,18 @@ use Rattle.ic_law.specs.declared.history.HubReply.TheVariants.{Ticked, Memory}
 use Rattle.ic_law.specs.declared.history.TickNo.{TickNo}
 use Rattle.ic_law.specs.declared.history.Entry.{Entry}
 use Rattle.ic_law.specs.Packets.{Packet, packet_of, key_of, goes_forth}
-use Rattle.ic_law.specs.History.{emits, takes, IsStopped}
-use Rattle.ic_law.specs.Points.{Place, Emits, IsDirected, SameAgain, Sends, TakesNext, Tells, StopsAsked, IsHere}
+use Rattle.ic_law.specs.History.{IsStopped}
+use Rattle.ic_law.specs.Points.{Place, Emits, IsDirected, SameAgain, Sends, TakesNext, Tells, StopsAsked}
 use Rattle.ic_law.specs.Receiving.{Receives}
-use Rattle.ic_law.specs.Arriving.{Arrives, Known, IsForeign, IsUnknownKey, IsOfMotion, KnowsEnds, AnswersTakeAny}
-use Rattle.ic_law.specs.Emission.{queries_then}
-use Rattle.ic_law.specs.Hub.{HubPoint, IsReplyTo, IsSendingEnd, MayAnswer, kind_asked, kind_replied}
+use Rattle.ic_law.specs.Arriving.{Arrives, Known, IsUnknownKey, IsOfMotion}
+use Rattle.ic_law.specs.Hub.{IsReplyTo, IsSendingEnd, MayAnswer, kind_asked, kind_replied}
 use Rattle.ic_sender.specs.Standing.{KeepsSending}
-use Rattle.ic_ends.specs.Entries.{IsOurs, HasEnd, EndsKeep, IsPacketOf, AsksOf, OfPut, OfFinish, OfTakeFrom, OfTake, OfHalt, OfArrive, Concerns}
+use Rattle.ic_ends.specs.Entries.{HasEnd, AsksOf, OfPut, OfFinish, OfTakeFrom, OfTake, OfHalt, OfArrive, Concerns}
 use Rattle.ic_ends.specs.Laws.{Holds, ConcernedPoint}
 use Rattle.ic_ends.proofs.Telling.{emits_of, flag_of_true, one_packet, unread}
 use Rattle.ic_ends.proofs.Concerned.{nothing_of, still_then, receives_none, answers_none}
 use Rattle.ic_ends.proofs.Nought.{not_foreign}
-use Rattle.ic_ends.proofs.Whole.{same_whole, sends_whole, same_stays, sends_stay, SendsNothing, queries_still, goes_on}
+use Rattle.ic_ends.proofs.Whole.{same_whole, sends_whole, same_stays, sends_stay, queries_still, goes_on}
 
 -- ---- the end that the entry is about
 

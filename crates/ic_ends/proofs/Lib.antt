@@ -7,3 +7,8 @@ pub mod Whole
 pub mod ConcernedPoints
 pub mod NoughtPoints
 pub mod TickPoints
+pub mod Ahead
+pub mod Forms
+pub mod Served
+pub mod Beside
+pub mod Spent

@@ -1,37 +1,32 @@
 -- An entry of no end leaves each end standing.
-use Rattle.std.proofs.Common.{◌≡◌, ◌≢◌, ℕ, List, [], ◌∷◌, ◌++◌, Bool, true, false, not, cond, ◌&&◌, ◌||◌, ◌==◌, Option, Some, None, Result, Ok, Err, refl, ap, sym, ◌∙◌, subst, inl, inr, ◌⊎◌}
+use Rattle.std.proofs.Common.{◌≡◌, ◌≢◌, ℕ, List, [], ◌∷◌, ◌++◌, Bool, true, false, not, cond, ◌&&◌, ◌||◌, ◌==◌, Some, refl, ap, sym, ◌∙◌, subst, inl, inr, ◌⊎◌}
 use Rattle.std.specs.List.{Contains, flat_map, list_any}
 use Rattle.std.proofs.lemmas.List.Elements.{Contains-append_left}
 use Rattle.ic_base.specs.declared.keys.ConnKey.{ConnKey}
 use Rattle.ic_base.specs.declared.keys.ConnEnd.{ConnEnd}
-use Rattle.ic_base.specs.declared.keys.BeginNo.TheVariants.{Old, Twice}
 use Rattle.ic_base.specs.declared.datagram.Datagram.{Datagram}
-use Rattle.ic_base.specs.declared.datagram.Parcel.{Parcel}
 use Rattle.ic_base.specs.Keys.{key_eq}
 use Rattle.ic_header.specs.declared.header.Header.{Header}
-use Rattle.ic_header.specs.declared.fault.HeaderFault.{HeaderFault}
 use Rattle.ic_header.specs.declared.flags.Flags.{Flags}
-use Rattle.ic_header.specs.declared.flags.Flags.TheVariants.{Rows, LastRows, Query, Ack, Stop, Nak, Disorder, Duplicate}
+use Rattle.ic_header.specs.declared.flags.Flags.TheVariants.{Ack, Stop, Nak, Disorder, Duplicate}
 use Rattle.ic_header.specs.Spelling.{Heads}
 use Rattle.ic_header.specs.Reading.{read_header}
 use Rattle.ic_header.proofs.Joining.{reads_spelled}
 use Rattle.ic_law.specs.declared.history.HubAsk.{HubAsk}
 use Rattle.ic_law.specs.declared.history.HubAsk.TheVariants.{Begin, Put, Finish, Take, TakeFrom, Halt, Arrive, Tick, Clear, Leave}
 use Rattle.ic_law.specs.declared.history.HubReply.{HubReply}
-use Rattle.ic_law.specs.declared.history.HubReply.TheVariants.{Begun, Gave, Took, Came, Ticked, Cleared, Left, Memory}
-use Rattle.ic_law.specs.declared.history.Arrived.TheVariants.{Handled, Dropped}
-use Rattle.ic_law.specs.declared.history.HubNo.{HubNo}
+use Rattle.ic_law.specs.declared.history.HubReply.TheVariants.{Memory}
 use Rattle.ic_law.specs.declared.history.Entry.{Entry}
-use Rattle.ic_law.specs.Packets.{Packet, RowPacket, packet_read, packet_of, key_of, goes_forth, IsSegment}
-use Rattle.ic_law.specs.History.{emits, rows_in, puts, chunk_put, finishes, is_finish, hears, heard_by, was_given, was_handled, takes, parcel_for, parcels_from, parcels_in, stores, stored_by, halts, is_halt, leaves, datagrams_of, datagram_tells_stored, packet_tells_stored, tells_stored, answer_in, left_of}
+use Rattle.ic_law.specs.Packets.{Packet, packet_read, packet_of, key_of, goes_forth, IsSegment}
+use Rattle.ic_law.specs.History.{rows_in, chunk_put, is_finish, heard_by, was_given, was_handled, takes, parcel_for, parcels_from, parcels_in, stores, stored_by, halts, is_halt, leaves, datagrams_of, datagram_tells_stored, packet_tells_stored, tells_stored, answer_in, left_of}
 use Rattle.ic_law.specs.Points.{Place, Emits, IsDirected, IsHere, StopsAsked}
 use Rattle.ic_law.specs.Receiving.{handled}
-use Rattle.ic_law.specs.Arriving.{IsLiveQuery, IsOld, IsForeign, NoSegment, NotHere, Misdirected, OtherSession, NoSuchKey, IsUnknownKey, turned_header, turned_back, AnswersBegin, IsOldOne, IsTwice, IsNew, AnswersClear, ClearNow, NotClear, AnswersLeave, LeavesNow, LeftUnclear, LeftNothing}
+use Rattle.ic_law.specs.Arriving.{IsLiveQuery, IsOld, IsForeign, NoSegment, NotHere, Misdirected, OtherSession, NoSuchKey, turned_header, turned_back, AnswersBegin, IsOldOne, IsTwice, IsNew, AnswersClear, ClearNow, NotClear, AnswersLeave, LeavesNow, LeftUnclear, LeftNothing}
 use Rattle.ic_law.specs.Emission.{queries_in, ticks_by}
 use Rattle.ic_law.specs.Hub.{MayAnswer}
-use Rattle.ic_law.proofs.Lists.{Contains-head, Contains-none, Contains-one, flat_map-append}
+use Rattle.ic_law.proofs.Lists.{Contains-head, Contains-none, Contains-one}
 use Rattle.ic_law.proofs.Readings.{rows_in-reads, rows_go_forth, left_of-push}
-use Rattle.ic_sender.specs.Entries.{IsNothingOf, IsSilent, IsBefore}
+use Rattle.ic_sender.specs.Entries.{IsNothingOf}
 use Rattle.ic_receiver.specs.Entries.{IsSilent as IsSilentReceiving}
 use Rattle.ic_ends.specs.Entries.{IsOurs, IsNought, NoMemory, UnknownPut, UnknownFinish, UnknownHalt, UnknownTakeFrom, UnknownTake, RefusedTake, Begins, Clears, Leaves, Unread, Strange, EndedQuery, UnbegunQuery, LateAnswer, RefusedTick}
 use Rattle.ic_ends.specs.Laws.{PassesSending, NoughtPasses}

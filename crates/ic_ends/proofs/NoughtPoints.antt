@@ -1,14 +1,11 @@
 -- An entry of no end has the points of a hub.
-use Rattle.std.proofs.Common.{◌≡◌, ◌≢◌, ℕ, List, [], ◌∷◌, ◌++◌, Bool, true, false, Option, Some, None, Ok, Err, refl, ap, sym, ◌∙◌, subst, inl, inr, ◌⊎◌}
-use Rattle.std.specs.List.{Contains, flat_map}
+use Rattle.std.proofs.Common.{◌≡◌, ◌≢◌, ℕ, List, [], ◌∷◌, true, false, Some, Err, refl, ap, sym, ◌∙◌, subst, inl, inr}
+use Rattle.std.specs.List.{Contains}
 use Rattle.ic_base.specs.declared.keys.ConnKey.{ConnKey}
 use Rattle.ic_base.specs.declared.keys.ConnEnd.{ConnEnd}
-use Rattle.ic_base.specs.declared.keys.BeginNo.TheVariants.{Old, Twice}
 use Rattle.ic_base.specs.declared.datagram.Datagram.{Datagram}
-use Rattle.ic_base.specs.declared.datagram.Parcel.{Parcel}
 use Rattle.ic_header.specs.declared.fault.HeaderFault.{HeaderFault}
 use Rattle.ic_header.specs.declared.flags.Flags.{Flags}
-use Rattle.ic_header.specs.declared.flags.Flags.TheVariants.{Stop, Nak}
 use Rattle.ic_header.specs.Reading.{read_header}
 use Rattle.ic_law.specs.declared.history.HubAsk.{HubAsk}
 use Rattle.ic_law.specs.declared.history.HubAsk.TheVariants.{Begin, Put, Finish, Take, TakeFrom, Halt, Arrive, Tick, Clear, Leave}
@@ -21,14 +18,14 @@ use Rattle.ic_law.specs.declared.history.TickNo.{TickNo}
 use Rattle.ic_law.specs.declared.history.TickNo.TheVariants.{Spent}
 use Rattle.ic_law.specs.declared.history.Entry.{Entry}
 use Rattle.ic_law.specs.Packets.{Packet, packet_of, goes_forth}
-use Rattle.ic_law.specs.History.{was_left, takes}
+use Rattle.ic_law.specs.History.{was_left}
 use Rattle.ic_law.specs.Points.{Place, Emits, IsLive, IsHere, IsClear}
-use Rattle.ic_law.specs.Arriving.{Arrives, Stranger, OfEnded, OfNotBegun, TooLate, IsUnknownKey, IsOfMotion, unknown, AnswersTakeAny, AnswersBegin, IsOldOne, IsTwice, IsNew, AnswersClear, ClearNow, NotClear, AnswersLeave, LeavesNow, LeftUnclear, LeftNothing, IsLiveQuery}
+use Rattle.ic_law.specs.Arriving.{Arrives, Stranger, OfEnded, OfNotBegun, TooLate, IsUnknownKey, IsOfMotion, unknown, AnswersTakeAny, AnswersBegin, IsOldOne, IsTwice, IsNew, AnswersClear, ClearNow, NotClear, AnswersLeave, LeavesNow, LeftUnclear, LeftNothing}
 use Rattle.ic_law.specs.Emission.{IsFirstSpent}
-use Rattle.ic_law.specs.Hub.{HubPoint, HubLaw, IsReplyTo, IsSendingEnd, kind_asked, kind_replied}
+use Rattle.ic_law.specs.Hub.{HubLaw, IsReplyTo, kind_asked, kind_replied}
 use Rattle.ic_ends.specs.Entries.{IsNought, NoMemory, UnknownPut, UnknownFinish, UnknownHalt, UnknownTakeFrom, UnknownTake, RefusedTake, Begins, Clears, Leaves, Unread, Strange, EndedQuery, UnbegunQuery, LateAnswer, RefusedTick}
-use Rattle.ic_ends.specs.Laws.{Holds, NoughtPoint}
-use Rattle.ic_ends.proofs.Telling.{flag_of_true, one_packet, unread, TellsNone}
+use Rattle.ic_ends.specs.Laws.{NoughtPoint}
+use Rattle.ic_ends.proofs.Telling.{flag_of_true, one_packet, unread}
 use Rattle.ic_ends.proofs.Nought.{IsQuiet, quiet, ask_in, ask_is, stops, tells_none}
 use Rattle.ic_ends.proofs.Lives.{live_once}
 use Rattle.ic_ends.proofs.Whole.{same_whole, sends_whole, same_stays, sends_stay}

@@ -1,29 +1,24 @@
 -- A tick has the points of a hub.
-use Rattle.std.proofs.Common.{◌≡◌, ◌≢◌, ℕ, List, [], ◌∷◌, ◌++◌, Bool, true, false, cond, ◌||◌, Option, Some, None, Ok, Err, refl, ap, sym, ◌∙◌, subst, inl, inr, ◌⊎◌}
+use Rattle.std.proofs.Common.{◌≡◌, List, [], ◌∷◌, ◌++◌, Bool, true, false, ◌||◌, Ok, Err, refl, ap, sym, ◌∙◌, subst, inl, inr}
 use Rattle.std.specs.List.{Contains, flat_map, list_any}
 use Rattle.std.proofs.lemmas.List.Elements.{Contains-append_cases}
 use Rattle.ic_base.specs.declared.keys.ConnKey.{ConnKey}
 use Rattle.ic_base.specs.declared.keys.ConnEnd.{ConnEnd}
 use Rattle.ic_base.specs.declared.datagram.Datagram.{Datagram}
-use Rattle.ic_base.specs.declared.datagram.Parcel.{Parcel}
 use Rattle.ic_header.specs.declared.flags.Flags.{Flags}
-use Rattle.ic_law.specs.declared.history.HubAsk.{HubAsk}
 use Rattle.ic_law.specs.declared.history.HubAsk.TheVariants.{Begin, Put, Finish, Take, TakeFrom, Halt, Arrive, Tick, Clear, Leave}
 use Rattle.ic_law.specs.declared.history.HubReply.TheVariants.{Ticked}
-use Rattle.ic_law.specs.declared.history.TickNo.{TickNo}
 use Rattle.ic_law.specs.declared.history.Entry.{Entry}
 use Rattle.ic_law.specs.Packets.{Packet, RowPacket, goes_forth}
 use Rattle.ic_law.specs.History.{emits, emitted_of, rows_in, hears, is_stop, puts, finishes, takes, stopped_of, IsStopped}
 use Rattle.ic_law.specs.Points.{Place, Emits, SameAgain, Sends, IsHere}
 use Rattle.ic_law.specs.Emission.{queries_then}
-use Rattle.ic_law.specs.Hub.{HubPoint, IsSendingEnd, kind_asked, kind_replied}
+use Rattle.ic_law.specs.Hub.{IsSendingEnd, kind_asked, kind_replied}
 use Rattle.ic_law.proofs.Lists.{Contains-flat_map, Contains-head, Contains-middle}
-use Rattle.ic_law.proofs.Readings.{rows_in-reads, rows_go_forth, emitted_of-push, stopped_of-push}
-use Rattle.ic_sender.specs.Standing.{KeepsSending}
+use Rattle.ic_law.proofs.Readings.{rows_in-reads, emitted_of-push, stopped_of-push}
 use Rattle.ic_ends.specs.Entries.{IsTick}
 use Rattle.ic_ends.specs.Laws.{Holds, TickPoint}
-use Rattle.ic_ends.proofs.Telling.{flag_of_true}
-use Rattle.ic_ends.proofs.Ticked.{tick_is, ticking, IsEmittedHere, tick_emits, tick_answers_none, tick_tells_none}
+use Rattle.ic_ends.proofs.Ticked.{tick_is, tick_emits, tick_answers_none, tick_tells_none}
 use Rattle.ic_ends.proofs.Whole.{same_whole, sends_whole, sends_stay, queries_stopped, goes_on}
 
 -- ---- rows that a tick emits

@@ -1,6 +1,6 @@
 -- A tick leaves each receiving end standing, and is nothing to an end that isn't here.
-use Rattle.std.proofs.Common.{◌≡◌, ℕ, List, [], ◌∷◌, ◌++◌, Bool, true, false, Some, Ok, refl, ap, sym, ◌∙◌, subst}
-use Rattle.std.specs.List.{Contains, flat_map}
+use Rattle.std.proofs.Common.{◌≡◌, List, true, false, Ok, refl, ap, sym, ◌∙◌, subst}
+use Rattle.std.specs.List.{Contains}
 use Rattle.ic_base.specs.declared.keys.ConnKey.{ConnKey}
 use Rattle.ic_base.specs.declared.keys.ConnEnd.{ConnEnd}
 use Rattle.ic_base.specs.declared.datagram.Datagram.{Datagram}
@@ -10,13 +10,13 @@ use Rattle.ic_law.specs.declared.history.HubAsk.TheVariants.{TakeFrom, Halt, Arr
 use Rattle.ic_law.specs.declared.history.HubReply.TheVariants.{Ticked}
 use Rattle.ic_law.specs.declared.history.Entry.{Entry}
 use Rattle.ic_law.specs.Packets.{Packet, key_of, goes_forth}
-use Rattle.ic_law.specs.History.{emits, datagrams_of, rows_in, takes, stores, halts}
+use Rattle.ic_law.specs.History.{datagrams_of, rows_in, takes, stores, halts}
 use Rattle.ic_law.specs.Points.{Emits, IsHere}
 use Rattle.ic_law.specs.Arriving.{IsUnknownKey}
 use Rattle.ic_law.specs.Emission.{queries_in}
 use Rattle.ic_sender.specs.Entries.{IsNothingOf}
 use Rattle.ic_receiver.specs.Entries.{IsSilent as IsSilentReceiving}
-use Rattle.ic_ends.specs.Entries.{IsPacketOf, IsSentHere, IsTick}
+use Rattle.ic_ends.specs.Entries.{IsTick}
 use Rattle.ic_ends.specs.Laws.{TickPasses}
 use Rattle.ic_ends.proofs.Telling.{rows_not, queries_not_of, flat_none, flag_of_true, one_packet, entry_is, TellsNone}
 

@@ -1,6 +1,6 @@
 -- What the law of a hub gives of a whole history, and what one more entry leaves of it.
-use Rattle.std.proofs.Common.{◌≡◌, ℕ, List, [], ◌∷◌, ◌++◌, Bool, true, false, cond, ◌||◌, ◌==◌, Option, Some, None, refl, ap, sym, ◌∙◌, subst, inl, inr, ◌⊎◌, append-nil, arith}
-use Rattle.std.specs.List.{Contains, flat_map, list_any}
+use Rattle.std.proofs.Common.{◌≡◌, ℕ, List, [], ◌∷◌, ◌++◌, Bool, true, false, cond, ◌||◌, ◌==◌, None, refl, ap, sym, ◌∙◌, subst, inl, inr, append-nil, arith}
+use Rattle.std.specs.List.{Contains, flat_map}
 use Rattle.std.proofs.lemmas.List.Elements.{Contains-append_cases}
 use Rattle.ic_base.specs.declared.keys.ConnKey.{ConnKey}
 use Rattle.ic_base.specs.declared.keys.ConnEnd.{ConnEnd}
@@ -9,15 +9,14 @@ use Rattle.ic_base.specs.declared.datagram.Datagram.{Datagram}
 use Rattle.ic_header.specs.declared.flags.Flags.{Flags}
 use Rattle.ic_law.specs.declared.history.Entry.{Entry}
 use Rattle.ic_law.specs.Packets.{Packet, RowPacket, is_rows, goes_forth}
-use Rattle.ic_law.specs.History.{emits, emitted_of, rows_in, rows_emitted_of, puts, chunks_put_of, finishes, finished_of, IsFinished, hears, is_stop, stopped_of, IsStopped, sent_upto}
+use Rattle.ic_law.specs.History.{emits, emitted_of, rows_in, rows_emitted_of, puts, chunks_put_of, finishes, finished_of, IsFinished, stopped_of, IsStopped, sent_upto}
 use Rattle.ic_law.specs.Filling.{sealed_of}
-use Rattle.ic_law.specs.Points.{Place, Every, Emits, SameAgain, SentUpto, Fills, Sends, IsHere}
-use Rattle.ic_law.specs.Emission.{Timing, timing_of, timing_ticked, settled, moved, clock_of, ticks_by, query_due, queries_then, rows_at, emitted_numbers, EmitsDue, EmissionLaw, is_query, queries_in}
+use Rattle.ic_law.specs.Points.{Place, Emits, SameAgain, SentUpto, Fills, Sends, IsHere}
+use Rattle.ic_law.specs.Emission.{Timing, timing_of, settled, moved, clock_of, ticks_by, query_due, queries_then, rows_at, emitted_numbers, EmitsDue, is_query, queries_in}
 use Rattle.ic_law.specs.Hub.{HubPoint, HubLaw}
 use Rattle.ic_law.proofs.Lists.{Contains-none}
-use Rattle.ic_law.proofs.Readings.{fold_every, every_push, emitted_of-push, rows_emitted_of-push, chunks_put_of-push, finished_of-push, stopped_of-push}
+use Rattle.ic_law.proofs.Readings.{fold_every, every_push, emitted_of-push, rows_emitted_of-push, chunks_put_of-push, finished_of-push}
 use Rattle.ic_law.proofs.Timings.{timing_of-push}
-use Rattle.ic_ends.specs.Entries.{EndsKeep}
 use Rattle.ic_ends.specs.Laws.{LawGoesOn, EmissionGoesOn}
 use Rattle.ic_ends.proofs.Telling.{row_of, rows_is, query_is, forth_cases, no_datagram}
 

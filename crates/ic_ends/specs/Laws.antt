@@ -7,9 +7,9 @@ use Rattle.ic_law.specs.declared.history.HubAsk.TheVariants.{Take}
 use Rattle.ic_law.specs.declared.history.HubReply.TheVariants.{Memory}
 use Rattle.ic_law.specs.declared.history.Entry.{Entry}
 use Rattle.ic_law.specs.History.{emits}
-use Rattle.ic_law.specs.Points.{Place, IsFormed, IsHere}
+use Rattle.ic_law.specs.Points.{Place, Every, IsFormed, IsHere}
 use Rattle.ic_law.specs.Asking.{IsAllowed}
-use Rattle.ic_law.specs.Arriving.{IsUnknownKey, AnswersTakeAny}
+use Rattle.ic_law.specs.Arriving.{IsLiveQuery, IsOld, IsUnknownKey, AnswersTakeAny}
 use Rattle.ic_law.specs.Emission.{EmissionLaw}
 use Rattle.ic_law.specs.Hub.{HubPoint, HubLaw}
 use Rattle.ic_sender.specs.Entries.{IsSilent, IsBefore}
@@ -70,3 +70,43 @@ LawGoesOn = (place : Place) (h : List Entry) (e : Entry) → HubLaw place h → 
 -- what each end emits is what is due, where each keeps its points
 abbrev pub EmissionGoesOn : Type 0
 EmissionGoesOn = (place : Place) (h : List Entry) (e : Entry) → EmissionLaw place h → EndsKeep place h e → EmissionLaw place (h ++ e ∷ [])
+
+-- ---- ends to come
+
+-- the entry is about an end that is here, about none, or a tick
+pub data IsAbout (place : Place) (h : List Entry) (e : Entry) : Type 0 where
+  AboutEnd : (c : ConnKey) (side : Bool) → Concerns place c side e → HasEnd place c side h → IsAbout place h e
+  AboutNone : IsNought place h e → IsAbout place h e
+  AboutTicks : IsTick h e → IsAbout place h e
+
+-- nothing in the history is of this end, which wasn't there
+pub record IsAhead (end : ConnEnd) (h : List Entry) : Type 0 where
+  pub sends : Every (IsBefore end) h
+  pub receives : Every (IsSilentReceiving end) h
+
+-- an end whose query isn't live, and of which nothing was, has nothing with one more entry; so has one that begins with it
+abbrev pub StaysAhead : Type 0
+StaysAhead = (place : Place) (h : List Entry) (e : Entry) (end : ConnEnd) → IsAbout place h e → (IsLiveQuery end.key.query h → ⊥) → IsAhead end h → IsAhead end (h ++ e ∷ [])
+
+-- of each end whose query was never begun, nothing was
+abbrev pub AreAhead : List Entry → Type 0
+AreAhead h = (end : ConnEnd) → (IsLiveQuery end.key.query h → ⊥) → (IsOld end.key.query h → ⊥) → IsAhead end h
+
+abbrev pub AheadGoesOn : Type 0
+AheadGoesOn = (place : Place) (h : List Entry) (e : Entry) → IsAbout place h e → AreAhead h → AreAhead (h ++ e ∷ [])
+
+-- ---- all of it goes on
+
+-- what a hub keeps of its whole history
+pub record Goes (place : Place) (h : List Entry) : Type 0 where
+  pub law : HubLaw place h
+  pub emission : EmissionLaw place h
+  pub ahead : AreAhead h
+
+abbrev pub GoesFirst : Type 0
+GoesFirst = (place : Place) → Goes place []
+
+-- with an entry about an end that is here, about none, or a tick, where each end keeps its points
+abbrev pub GoesOn : Type 0
+GoesOn = (place : Place) (h : List Entry) (e : Entry) → IsAbout place h e → Holds place h e → ((query motion : ℕ) → e.ask ≡ Take query motion → AnswersTakeAny query motion h e.reply)
+    → EmissionLaw place h → AreAhead h → Goes place (h ++ e ∷ [])

@@ -1,3 +1,6 @@
 pub mod Entries
 pub mod Living
 pub mod Laws
+pub mod Serving
+pub mod Formed
+pub mod Clocks

@@ -57,7 +57,7 @@ rows_next-are m held packets t clock mirrors le =
 
 -- ---- sizes
 
-size_at : (packet : ℕ) (packets : List Sealed) (k : ℕ) (s : Sealed) → AllByRecursion (IsPayload packet) packets → slice_get packets k ≡ Some s → IsPayload packet s
+pub size_at : (packet : ℕ) (packets : List Sealed) (k : ℕ) (s : Sealed) → AllByRecursion (IsPayload packet) packets → slice_get packets k ≡ Some s → IsPayload packet s
 size_at packet [] k s all h = let bad : None ≡ Some s = h in cc
 size_at packet (p ∷ packets) zero s all h = let same : p ≡ s = cc in subst (IsPayload packet) same all.0
 size_at packet (p ∷ packets) (suc k) s all h = size_at packet packets k s all.1 h

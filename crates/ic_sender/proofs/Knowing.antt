@@ -22,7 +22,7 @@ use Rattle.ic_sender.proofs.Emitting.{alike_weaken}
 
 -- ---- armed
 
-alike_flight : (R : Flight → Timer → Type 0) (fs : List Flight) (ts : List Timer) (f : Flight) → Alike R fs ts → Contains fs f → (t : Timer) × R f t
+pub alike_flight : (R : Flight → Timer → Type 0) (fs : List Flight) (ts : List Timer) (f : Flight) → Alike R fs ts → Contains fs f → (t : Timer) × R f t
 alike_flight R [] ts f h at = absurd (Contains-none f at)
 alike_flight R (g ∷ fs) [] f h at = absurd h
 alike_flight R (g ∷ fs) (t ∷ ts) f h at = elim (head_or_tail g fs f at) [ inl same ↦ (t, subst (λ x. R x t) same h.0) | inr later ↦ alike_flight R fs ts f h.1 later ]
@@ -30,7 +30,7 @@ alike_flight R (g ∷ fs) (t ∷ ts) f h at = elim (head_or_tail g fs f at) [ in
 on_of : (s : Sending) (held : List Item) (h : List Entry) → Reflects s held h → stopped_of s.end.key h ≡ false → s.stopped ≡ false
 on_of s held h old on = sym old.stopped ∙ on
 
-sent_is : (s : Sending) (held : List Item) (h : List Entry) → Reflects s held h → sent_upto s.end.key h ≡ s.sent
+pub sent_is : (s : Sending) (held : List Item) (h : List Entry) → Reflects s held h → sent_upto s.end.key h ≡ s.sent
 sent_is s held h old = greatest_sent (sealed_of s.end.key s.settings h) (rows_emitted_of s.end.key h) s.sent old.sent
 
 some_standing : (b d : Bool) (now : ℕ) (s : Sending) (o : Option Asked) → b ≡ false → d ≡ true → cond b None (cond d (standing now s.window o) o) ≡ o → (a : Asked) × (o ≡ Some a)

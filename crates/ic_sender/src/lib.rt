@@ -7,8 +7,7 @@
 //! and `on_stop`, once the hub has found that a datagram is such an answer. Each gives the datagrams that the hub then
 //! emits. A tick has two phases, so that a refused one changes nothing: `due_gives` and `query_gives` look, for all
 //! connections first, and then `due_done` and `query_done` make the change. `is_over`, `is_stopped`, `is_finished`,
-//! `unacked`,
-//! `sent`, `resent` and `query_due` look.
+//! `unacked`, `sent`, `resent` and `query_due` look.
 //!
 //! Read first: `specs/Sending.antt`, what each event makes of a connection; `specs/Calls.antt`, what each call answers;
 //! then `specs/Standing.antt`, what a connection has to do with the history of its hub. Below: `ic_sendring`, `ic_window`,

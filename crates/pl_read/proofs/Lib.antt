@@ -10,3 +10,5 @@ pub mod Steps
 pub mod PlanLimits
 pub mod TableLimits
 pub mod DocumentLimits
+pub mod JsonTexts
+pub mod TextLimits

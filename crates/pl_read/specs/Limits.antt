@@ -6,6 +6,7 @@ use Rattle.ic_row.specs.declared.value.Kind.{Kind}
 use Rattle.ic_row.specs.declared.value.Kind.TheVariants as kind
 use Rattle.ic_row.specs.declared.value.Value.{Value}
 use Rattle.ic_row.specs.declared.value.Value.TheVariants.{Null, Int, Wide, Chars}
+use Rattle.ic_row.specs.Spelling.{FitsLength}
 use Rattle.pl_tree.specs.Trees.{tree_in}
 use Rattle.pl_tree.specs.Sizes.{IsPlan, AreTables}
 use Rattle.pl_read.specs.declared.table.Table.{Table}
@@ -54,3 +55,7 @@ pub record IsDocument (document : Document) : Type 0 where
   pub values : AllByRecursion HasKinds document.tables
   pub query_count : length document.queries ≤ 64
   pub queries : AllByRecursion (λ plan. IsPlan (tree_in plan)) document.queries
+
+-- no text of a row is too long to be spelled
+abbrev pub HasShortTexts : Document → Type 0
+HasShortTexts document = AllByRecursion (λ table. AllByRecursion (AllByRecursion FitsLength) table.rows) document.tables

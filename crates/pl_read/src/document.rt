@@ -1,5 +1,5 @@
 // The document whole.
-ghost use Rattle.std.specs.Prelude.{◌≡◌, codes, IfOk};
+ghost use Rattle.std.specs.Prelude.{◌≡◌, ◌<◌, ◌^◌, length, codes, IfOk};
 ghost use Rattle.serde_json.specs.View.{view};
 ghost use Rattle.pl_read.specs.Paths.{path_of};
 ghost use Rattle.pl_read.specs.Faults.{Gives};
@@ -7,7 +7,7 @@ ghost use Rattle.pl_read.specs.Members.{needed};
 ghost use Rattle.pl_read.specs.Tables.{tables_at};
 ghost use Rattle.pl_read.specs.Nodes.{plans_at};
 ghost use Rattle.pl_read.specs.Documents as spec;
-ghost use Rattle.pl_read.specs.Limits.{IsDocument};
+ghost use Rattle.pl_read.specs.Limits.{IsDocument, HasShortTexts};
 
 use crate::fault::{DocNo, Flaw};
 use crate::member::{object_at, only, required};
@@ -86,6 +86,8 @@ pub fn read_document(alloc: Global, bytes: &[u8]) -> Result<Document, DocNo>
     // Each number in its range, each plan and table as large as they may be, each row with a value of its kind,
     // or null, for each column.
     ensures limits { IfOk result IsDocument }
+    // Of fewer bytes than 2 ^ 32: no text of a row is too long to be spelled, for none is longer than the bytes.
+    ensures texts { length bytes.now < 2 ^ 32 → IfOk result HasShortTexts }
 {
     match Value::from_slice(alloc, bytes) {
         Ok(value) => document_at(alloc, Place::Document, &value),

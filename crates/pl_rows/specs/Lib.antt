@@ -3,3 +3,4 @@ pub mod Groups
 pub mod Routing
 pub mod Streams
 pub mod Placed
+pub mod Fitting

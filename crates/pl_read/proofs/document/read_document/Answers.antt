@@ -10,6 +10,7 @@ use Rattle.pl_read.specs.Faults.{Gives, Tells, Fails, fault_at, or_refused, ◌>
 use Rattle.pl_read.specs.Documents.{document_at, value_of, reading}
 use Rattle.serde_json.specs.Data.{Data}
 use Rattle.pl_read.proofs.DocumentLimits.{read_keeps}
+use Rattle.pl_read.proofs.TextLimits.{read_is_short}
 use Rattle.pl_read.proofs.ValueLemmas.{value_of-some, value_of-none, told}
 use Rattle.pl_read.proofs.document.read_document.Goals as goal
 
@@ -29,6 +30,12 @@ returns-in-Ok-clause-limits c =
     let here : path_of place.Document ≡ [] = search (rules, the_lemmas) in
     let is : value_of c.args.bytes.now ≡ Some (view c.in-Ok.value) = value_of-some _ _ c.in-Ok.ensures.ok.0 c.in-Ok.ensures.ok.1 in
     read_keeps c.args.bytes.now c.document_at.result (read (path_of place.Document) c.args.bytes.now (view c.in-Ok.value) c.document_at.result here is c.document_at.ensures)
+
+pub returns-in-Ok-clause-texts : goal.returns-in-Ok-clause-texts
+returns-in-Ok-clause-texts c =
+    let here : path_of place.Document ≡ [] = search (rules, the_lemmas) in
+    let is : value_of c.args.bytes.now ≡ Some (view c.in-Ok.value) = value_of-some _ _ c.in-Ok.ensures.ok.0 c.in-Ok.ensures.ok.1 in
+    read_is_short c.args.bytes.now c.document_at.result (read (path_of place.Document) c.args.bytes.now (view c.in-Ok.value) c.document_at.result here is c.document_at.ensures)
 
 pub returns-else-is_memory-clause-exact : goal.returns-else-is_memory-clause-exact
 returns-else-is_memory-clause-exact c =

@@ -1,0 +1,19 @@
+use Rattle.std.proofs.Common.{◌≡◌, ap, sym, ◌∙◌, subst}
+use Rattle.std.specs.Prelude.{IfOk}
+use Rattle.ic_outgoing.specs.declared.due.Due.{Due}
+use Rattle.ic_outgoing.specs.Outgoing.{OutgoingState}
+use Rattle.ic_outgoing.specs.Emitted.{AreOutgoing}
+use Rattle.ic_outgoing.specs.Looking.{Looks}
+use Rattle.ic_outgoing.specs.Standing.{KeepsPackets, GivesPacketUp, Tells}
+use Rattle.ic_outgoing.proofs.Spending.{looks_tell, looks_formed}
+use Rattle.ic_outgoing.proofs.outgoing.Outgoing.due.Goals as goal
+
+pub returns-clause-tells : goal.returns-clause-tells
+returns-clause-tells c =
+    subst (λ (o : OutgoingState). Tells o KeepsPackets GivesPacketUp c.look.result) c.self.view_is
+    (looks_tell c.self.inside.sender c.self.inside.waits c.self.inside.tick c.look.result c.self.invariant c.bounded.ensures.queue (subst (λ (o : OutgoingState). Looks o c.look.result) (sym c.self.view_is) c.look.ensures))
+
+pub returns-clause-formed : goal.returns-clause-formed
+returns-clause-formed c =
+    subst (λ (o : OutgoingState). IfOk c.look.result (λ (d : Due). AreOutgoing o.sending d.datagrams)) c.self.view_is
+    (looks_formed c.self.inside.sender c.self.inside.waits c.self.inside.tick c.look.result c.self.invariant (subst (λ (o : OutgoingState). Looks o c.look.result) (sym c.self.view_is) c.look.ensures))

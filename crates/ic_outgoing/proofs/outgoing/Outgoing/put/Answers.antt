@@ -1,0 +1,31 @@
+use Rattle.std.proofs.Common.{◌≡◌, ◌++◌, ◌∷◌, [], List, ap, sym, ◌∙◌, refl, subst, false}
+use Rattle.std.specs.Prelude.{IfOk}
+use Rattle.ic_law.specs.declared.history.Entry.{Entry}
+use Rattle.ic_sender.specs.Entries.{IsPutting}
+use Rattle.ic_outgoing.specs.Emitted.{AreOutgoing}
+use Rattle.ic_outgoing.specs.Outgoing.{OutgoingState}
+use Rattle.ic_outgoing.specs.Standing.{Stands, IsSound}
+use Rattle.ic_outgoing.proofs.Room.{waits_alone, leaves_more_room}
+use Rattle.ic_outgoing.proofs.Steps.{state}
+use Rattle.ic_outgoing.proofs.Going.{put_stands, put_sound, put_formed}
+use Rattle.ic_outgoing.proofs.outgoing.Outgoing.put.Goals as goal
+
+pub put-requires-clause-alone : goal.put-requires-clause-alone
+put-requires-clause-alone c = waits_alone c.self.inside.sender c.self.inside.waits c.self.inside.tick c.self.invariant
+
+pub put-requires-clause-room : goal.put-requires-clause-room
+put-requires-clause-room c = leaves_more_room c.self.inside.sender c.self.inside.waits c.self.inside.tick c.self.invariant c.bounded.ensures.queue c.bounded.ensures.kept
+
+pub invariant_of-self : goal.invariant_of-self
+invariant_of-self c =
+    put_sound c.self.inside.sender c.self.inside.waits c.self.inside.tick c.args.chunk.now c.put.result c.put.new.self c.put.new.expiry c.self.invariant c.put.ensures.puts c.put.ensures.stands
+
+pub returns-clause-formed : goal.returns-clause-formed
+returns-clause-formed c =
+    subst (λ (o : OutgoingState). IfOk c.put.result (AreOutgoing o.sending)) c.self.view_is
+    (put_formed c.self.inside.sender c.self.inside.waits c.self.inside.tick c.args.chunk.now c.put.result c.put.new.self c.put.new.expiry c.self.invariant c.put.ensures.puts c.put.ensures.stands)
+
+pub returns-clause-stands : goal.returns-clause-stands
+returns-clause-stands c =
+    subst (λ (o : OutgoingState). (h : List Entry) (e : Entry) → IsPutting o.sending.end.key c.args.chunk.now c.put.result e → Stands o h → Stands (state c.put.new.self c.put.new.expiry.held c.self.inside.tick) (h ++ e ∷ [])) c.self.view_is
+    (put_stands c.self.inside.sender c.self.inside.waits c.self.inside.tick c.args.chunk.now c.put.result c.put.new.self c.put.new.expiry c.self.invariant c.put.ensures.puts c.put.ensures.stands)

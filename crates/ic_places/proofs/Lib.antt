@@ -1,0 +1,10 @@
+pub mod Distinct
+pub mod Position
+pub mod Apart
+pub mod Firsts
+pub mod Member
+pub mod Counted
+pub mod Found
+pub mod Named
+pub mod Rising
+pub mod Within

@@ -1,0 +1,22 @@
+use Rattle.std.proofs.Common.{◌≡◌, sym, ◌∙◌, ap, map, subst}
+use Rattle.pl_rows.specs.Fitting.{Fits}
+use Rattle.tb_load.specs.Kept.{spread_of, loaded_of, schemas_of}
+use Rattle.tb_load.specs.Standing.{StandWherePlaced, StandOnce, StandByKey, StandNowhereElse}
+use Rattle.tb_load.proofs.Loaded.{where_placed, once, by_key, nowhere_else}
+use Rattle.tb_load.proofs.Fitted.{fits}
+use Rattle.tb_load.proofs.loading.load.Goals as goal
+
+pub returns : goal.returns
+returns c =
+    let d = c.args.document.now in
+    let kept : c.from_tables.result ≡ loaded_of d =
+    c.from_tables.ensures ∙ c.in_ok-tables.ensures ∙ ap (map (spread_of d.segments)) c.as_slice.ensures in
+    let is : loaded_of d ≡ c.from_tables.result = sym kept in
+    record {
+      kept = kept;
+      rows = subst (StandWherePlaced d) is (where_placed d);
+      whole = subst (StandOnce d) is (once d);
+      by_key = subst (StandByKey d) is (by_key d);
+      nowhere = subst (StandNowhereElse d) is (nowhere_else d);
+      fits = λ document short. subst (Fits d.segments (schemas_of d)) is (fits d document short);
+    }
