@@ -1,5 +1,5 @@
 -- What one more entry does to a list of entries.
-use Rattle.std.proofs.Common.{◌≡◌, ℕ, List, [], ◌∷◌, ◌++◌, length, refl, ap, sym, ◌∙◌, subst, arith, inl, inr, ◌⊎◌, append_assoc, append-nil, length-append, ◌+◌}
+use Rattle.std.proofs.Common.{◌≡◌, List, [], ◌∷◌, ◌++◌, length, refl, ap, sym, ◌∙◌, subst, arith, inl, inr, ◌⊎◌, append_assoc, append-nil, length-append, ◌+◌}
 use Rattle.std.specs.List.{AllByRecursion}
 use Rattle.ic_turn.specs.Entries.{Entry, entries_of, Every, StandsWith}
 
