@@ -1,13 +1,14 @@
 -- A look by its steps.
-use Rattle.std.proofs.Common.{◌≡◌, ℕ, List, Option, Some, None, Result, Ok, Err, ap, sym, ◌∙◌, subst}
+use Rattle.std.proofs.Common.{◌≡◌, ℕ, List, Result, Ok, Err, refl, ap, sym, ◌∙◌, subst}
+use Rattle.std.specs.Prelude.{IfOk}
 use Rattle.ic_base.specs.declared.datagram.Datagram.{Datagram}
 use Rattle.ic_sender.specs.declared.send_no.SendNo.{SendNo}
 use Rattle.ic_sender.specs.declared.send_no.SendNo.TheVariants as refused
 use Rattle.ic_sender.specs.Sending.{spent_of, copies}
-use Rattle.ic_sender.specs.Calls.{Tries}
+use Rattle.ic_sender.specs.Calls.{Tries, Queries}
 use Rattle.ic_outgoing.specs.declared.due.Due.{Due}
-use Rattle.ic_outgoing.specs.Outgoing.{OutgoingState, numbers_due, datagrams_due}
-use Rattle.ic_outgoing.specs.Looking.{Looks}
+use Rattle.ic_outgoing.specs.Outgoing.{OutgoingState, next_tick, numbers_due}
+use Rattle.ic_outgoing.specs.Looking.{Looks, GivesDue, GivesQuery}
 
 pub looks_ok : (o : OutgoingState) (numbers : List ℕ) (ds : List Datagram) → numbers ≡ numbers_due o → Tries o.sending numbers (Ok ds) → Looks o (Ok (record { numbers = numbers; datagrams = ds }))
 looks_ok o numbers ds are (Tries.Again none is) =
@@ -34,3 +35,13 @@ looks_err o numbers e are (Tries.AgainWithout is) =
   where
     err : SendNo → Result Due SendNo
     err x = Err x
+
+pub looks_give : (o : OutgoingState) (result : Result Due SendNo) → Looks o result → IfOk result (GivesDue o)
+looks_give o result (Looks.Again none is) = subst (λ (r : Result Due SendNo). IfOk r (GivesDue o)) (sym is) (record { numbers = refl; datagrams = refl; unspent = none })
+looks_give o result (Looks.GivenUp n spent is) = subst (λ (r : Result Due SendNo). IfOk r (GivesDue o)) (sym is) tt
+looks_give o result (Looks.LooksWithout is) = subst (λ (r : Result Due SendNo). IfOk r (GivesDue o)) (sym is) tt
+
+pub queries_give : (o : OutgoingState) (result : Result (List Datagram) SendNo) → Queries o.sending (next_tick o.now) result → IfOk result (GivesQuery o)
+queries_give o result (Queries.Asks answered is) = subst (λ (r : Result (List Datagram) SendNo). IfOk r (GivesQuery o)) (sym is) (record { datagrams = refl; answered = answered })
+queries_give o result (Queries.Unanswered unanswered is) = subst (λ (r : Result (List Datagram) SendNo). IfOk r (GivesQuery o)) (sym is) tt
+queries_give o result (Queries.AsksWithout is) = subst (λ (r : Result (List Datagram) SendNo). IfOk r (GivesQuery o)) (sym is) tt

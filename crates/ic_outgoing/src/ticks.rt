@@ -9,7 +9,7 @@ ghost use Rattle.ic_sender.specs.Sending.{spent_of, waits_longer};
 ghost use Rattle.ic_sender.specs.Calls.{Queries, IsNow, LeavesRoom, is_unanswered};
 ghost use Rattle.ic_sender.specs.Entries.{IsTicking, tried_when, queried_when};
 ghost use Rattle.ic_outgoing.specs.Outgoing.{SameEnd, next_tick, datagrams_due, queries_due, ticking, MayTick};
-ghost use Rattle.ic_outgoing.specs.Looking.{Looks};
+ghost use Rattle.ic_outgoing.specs.Looking.{Looks, GivesDue, GivesQuery};
 ghost use Rattle.ic_outgoing.specs.Emitted.{AreOutgoing};
 ghost use Rattle.ic_outgoing.specs.Standing.{StandsNext, Tells, KeepsPackets, GivesPacketUp, KeepsQuery, GivesQueryUp};
 
@@ -84,6 +84,7 @@ impl Outgoing {
     /// bytes.
     pub fn due(&self, alloc: Global) -> Result<Due, SendNo>
         ensures looks { Looks self.now result }
+        ensures ok { IfOk result (GivesDue self.now) }
         ensures tells { Tells self.now KeepsPackets GivesPacketUp result }
         ensures formed { IfOk result (λ d. AreOutgoing self.now.sending d.datagrams) }
     {
@@ -96,6 +97,7 @@ impl Outgoing {
     /// Changes nothing, and allocates only where one is due.
     pub fn query(&self, alloc: Global) -> Result<Datagrams, SendNo>
         ensures looks { Queries self.now.sending (next_tick self.now.now) result }
+        ensures ok { IfOk result (GivesQuery self.now) }
         ensures tells { Tells self.now KeepsQuery GivesQueryUp result }
         ensures formed { IfOk result (AreOutgoing self.now.sending) }
     {

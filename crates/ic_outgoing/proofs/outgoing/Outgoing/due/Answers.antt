@@ -1,4 +1,4 @@
-use Rattle.std.proofs.Common.{◌≡◌, ap, sym, ◌∙◌, subst}
+use Rattle.std.proofs.Common.{sym, subst}
 use Rattle.std.specs.Prelude.{IfOk}
 use Rattle.ic_outgoing.specs.declared.due.Due.{Due}
 use Rattle.ic_outgoing.specs.Outgoing.{OutgoingState}
@@ -6,6 +6,7 @@ use Rattle.ic_outgoing.specs.Emitted.{AreOutgoing}
 use Rattle.ic_outgoing.specs.Looking.{Looks}
 use Rattle.ic_outgoing.specs.Standing.{KeepsPackets, GivesPacketUp, Tells}
 use Rattle.ic_outgoing.proofs.Spending.{looks_tell, looks_formed}
+use Rattle.ic_outgoing.proofs.Looked.{looks_give}
 use Rattle.ic_outgoing.proofs.outgoing.Outgoing.due.Goals as goal
 
 pub returns-clause-tells : goal.returns-clause-tells
@@ -17,3 +18,6 @@ pub returns-clause-formed : goal.returns-clause-formed
 returns-clause-formed c =
     subst (λ (o : OutgoingState). IfOk c.look.result (λ (d : Due). AreOutgoing o.sending d.datagrams)) c.self.view_is
     (looks_formed c.self.inside.sender c.self.inside.waits c.self.inside.tick c.look.result c.self.invariant (subst (λ (o : OutgoingState). Looks o c.look.result) (sym c.self.view_is) c.look.ensures))
+
+pub returns-clause-ok : goal.returns-clause-ok
+returns-clause-ok c = looks_give c.args.self.now c.look.result c.look.ensures

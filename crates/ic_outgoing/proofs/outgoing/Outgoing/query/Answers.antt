@@ -1,10 +1,13 @@
-use Rattle.std.proofs.Common.{◌≡◌, ℕ, ap, sym, ◌∙◌, subst}
+use Rattle.std.proofs.Common.{ℕ, subst}
 use Rattle.std.specs.Prelude.{IfOk}
 use Rattle.ic_sender.specs.Calls.{Queries}
 use Rattle.ic_outgoing.specs.Outgoing.{OutgoingState, next_tick}
 use Rattle.ic_outgoing.specs.Emitted.{AreOutgoing}
 use Rattle.ic_outgoing.specs.Standing.{KeepsQuery, GivesQueryUp, Tells}
 use Rattle.ic_outgoing.proofs.Spending.{queries_tell, queries_formed}
+use Rattle.ic_outgoing.specs.Looking.{GivesQuery}
+use Rattle.ic_outgoing.proofs.Steps.{state}
+use Rattle.ic_outgoing.proofs.Looked.{queries_give}
 use Rattle.ic_outgoing.proofs.outgoing.Outgoing.query.Goals as goal
 
 looked : (c : goal.After-query_gives) → Queries c.self.inside.sender (next_tick c.self.inside.tick) c.query_gives.result
@@ -18,3 +21,7 @@ pub returns-clause-formed : goal.returns-clause-formed
 returns-clause-formed c =
     subst (λ (o : OutgoingState). IfOk c.query_gives.result (AreOutgoing o.sending)) c.self.view_is
     (queries_formed c.self.inside.sender c.self.inside.waits c.self.inside.tick (next_tick c.self.inside.tick) c.query_gives.result c.self.invariant (looked c))
+
+pub returns-clause-ok : goal.returns-clause-ok
+returns-clause-ok c =
+    subst (λ (o : OutgoingState). IfOk c.query_gives.result (GivesQuery o)) c.self.view_is (queries_give (state c.self.inside.sender c.self.inside.waits.held c.self.inside.tick) c.query_gives.result (looked c))
