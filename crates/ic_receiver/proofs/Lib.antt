@@ -3,6 +3,5 @@ pub mod Shown
 mod Moving
 mod Came
 pub mod Taken
-mod Taken
 pub mod Others
 mod Made
