@@ -1,27 +1,23 @@
 -- A hub that is new, and one in which a query begins.
-use Rattle.std.proofs.Common.{◌≡◌, ◌≢◌, ◌<◌, ◌≤◌, ℕ, zero, suc, List, [], ◌∷◌, ◌++◌, map, length, take, drop, filter, not, get_or, replicate, append-nil, append_assoc, Bool, true, false, cond, ◌==◌, Option, Some, None, Result, Ok, Err, refl, ap, sym, ◌∙◌, subst, arith, inl, inr, ◌⊎◌, slice_get, nat_le, nat_lt, ℤ}
-use Rattle.std.specs.List.{AllByRecursion, Contains, AllWithin, flat_map}
-use Rattle.std.specs.FinMap.{FinMap, get, insert, get-insert, get-empty}
-use Rattle.std.specs.Ordering.{nat_cmp, eq_by_cmp}
-use Rattle.std.specs.Cmp.{nat_cmp_total, unsigned_ties, eq_by_cmp_equiv}
+use Rattle.std.proofs.Common.{◌≡◌, ◌<◌, ◌≤◌, ℕ, zero, suc, List, [], ◌∷◌, ◌++◌, map, length, take, drop, not, get_or, replicate, append-nil, append_assoc, Bool, true, false, cond, Some, None, refl, ap, sym, ◌∙◌, subst, arith, slice_get, nat_lt, ℤ}
+use Rattle.std.specs.List.{AllByRecursion, AllWithin, flat_map}
+use Rattle.std.specs.FinMap.{get-empty}
+use Rattle.std.specs.Ordering.{nat_cmp}
 use Rattle.std.proofs.lemmas.Bool.{ltb-true, ltb-false}
-use Rattle.std.proofs.lemmas.Bool.Decides.{Decides-eqb}
 use Rattle.ic_base.specs.Settings.{AreChecked}
-use Rattle.ic_base.specs.declared.keys.ConnKey.{ConnKey}
 use Rattle.ic_base.specs.declared.keys.ConnEnd.{ConnEnd}
 use Rattle.ic_base.specs.declared.settings.Settings.{Settings}
 use Rattle.ic_conntab.specs.Table.{Table, MayBegin}
 use Rattle.ic_conntab.specs.Table as table
 use Rattle.ic_law.specs.declared.history.Entry.{Entry}
-use Rattle.ic_law.specs.History.{left_of}
-use Rattle.ic_law.specs.Points.{Place, IsLive}
+use Rattle.ic_law.specs.Points.{IsLive}
 use Rattle.ic_law.specs.Emission.{clock_of}
 use Rattle.ic_outgoing.specs.Outgoing.{OutgoingState, begun_at}
 use Rattle.ic_receiver.specs.Receiving.{Receiving}
 use Rattle.ic_receiver.specs.Receiving as receiving
 use Rattle.ic_places.specs.Ends.{sending_ends, receiving_ends, motions_of}
 use Rattle.ic_ends.proofs.Ahead.{goes_first}
-use Rattle.ic_hub.specs.Hubbing.{Hubbing, Living, IsLiving, Ascend, IsHub, fresh, place_in}
+use Rattle.ic_hub.specs.Hubbing.{Living, IsLiving, Ascend, IsHub, fresh, place_in}
 use Rattle.ic_hub.specs.Standing.{IsAmong, Stands}
 use Rattle.ic_hub.specs.Beginning.{sender_begun, receiver_begun}
 

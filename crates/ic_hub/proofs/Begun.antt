@@ -1,7 +1,6 @@
 -- A hub stands on where a query begins, or is refused.
-use Rattle.std.proofs.Common.{◌≡◌, ◌≢◌, ◌<◌, ◌≤◌, ◌+◌, ℕ, zero, suc, List, [], ◌∷◌, ◌++◌, map, length, take, drop, Bool, true, false, cond, ◌==◌, Option, Some, None, Result, Ok, Err, refl, ap, sym, ◌∙◌, subst, arith, inl, inr, ◌⊎◌, slice_get, nat_le, is_some, replicate}
+use Rattle.std.proofs.Common.{◌≡◌, ◌≢◌, ◌<◌, ◌≤◌, ℕ, zero, suc, List, [], ◌∷◌, ◌++◌, map, length, take, drop, Bool, true, false, cond, ◌==◌, Option, Some, None, Ok, Err, refl, ap, sym, ◌∙◌, subst, arith, inl, inr, ◌⊎◌, slice_get, is_some, replicate}
 use Rattle.std.specs.List.{AllByRecursion, Contains}
-use Rattle.std.specs.FinMap.{get}
 use Rattle.std.proofs.lemmas.List.{take-append-drop}
 use Rattle.std.proofs.lemmas.Bool.{leb-false}
 use Rattle.std.proofs.lemmas.Bool.Decides.{Decides-eqb}
@@ -15,10 +14,9 @@ use Rattle.ic_conntab.specs.Table as table
 use Rattle.ic_conntab.proofs.Entries.{get_put}
 use Rattle.ic_law.specs.declared.history.HubAsk.TheVariants.{Begin, Take, Clear}
 use Rattle.ic_law.specs.declared.history.Entry.{Entry}
-use Rattle.ic_law.specs.History.{left_of}
 use Rattle.ic_law.specs.Points.{Place, IsLive}
-use Rattle.ic_law.specs.Asking.{AreEnds, IsEndHere}
-use Rattle.ic_law.specs.Arriving.{IsLiveQuery, IsOld, LastServed, IsGreatestLeft, AnswersBegin, IsOldOne, IsTwice, IsNew}
+use Rattle.ic_law.specs.Asking.{AreEnds}
+use Rattle.ic_law.specs.Arriving.{IsLiveQuery, IsOld, LastServed, IsGreatestLeft, IsOldOne, IsTwice, IsNew}
 use Rattle.ic_law.specs.Emission.{clock_of}
 use Rattle.ic_law.proofs.Lists.{Contains-none}
 use Rattle.ic_places.specs.Ends.{sending_ends, receiving_ends, keys_of, motions_of}
@@ -37,7 +35,7 @@ use Rattle.ic_ends.proofs.Whole.{law_goes_on, emission_goes_on}
 use Rattle.ic_ends.proofs.Nought.{quiet}
 use Rattle.ic_ends.proofs.NoughtPoints.{nought_point}
 use Rattle.ic_ends.proofs.Served.{served_before, served_nobody}
-use Rattle.ic_hub.specs.Hubbing.{Hubbing, Living, IsLiving, IsOfHub, keys_in, Ascend, IsHub, place_in}
+use Rattle.ic_hub.specs.Hubbing.{Hubbing, Living, IsOfHub, keys_in, Ascend, IsHub, place_in}
 use Rattle.ic_hub.specs.Entries.{begin_entry}
 use Rattle.ic_hub.specs.Standing.{LivingStands, IsTop, IsAmong, Stands}
 use Rattle.ic_hub.specs.Beginning.{IsBetween, SendsFirst, ReceivesFirst, IsBegun}
@@ -124,9 +122,9 @@ pub begun_of_hub : (place : Place) (tick query : ℕ) (ends : List ConnEnd) (l :
 begun_of_hub place tick query ends l are begun =
     let senders : l.senders ≡ map (λ (e : ConnEnd). begun_at e place.settings tick) (sending_ends ends) = begun.senders ∙ senders_are place.settings tick ends in
     let ours : AllByRecursion (IsOurs place) ends = all_from (IsOurs place) ends (λ i e h.
-      let its = are.each e (at_contains ends i e h) in
-      let between = all_at IsBetween ends i e begun.between h in
-      record { session = its.session; sends_here = its.sends_here; receives_here = its.receives_here; from = between.from; to = between.to }) in
+    let its = are.each e (at_contains ends i e h) in
+    let between = all_at IsBetween ends i e begun.between h in
+    record { session = its.session; sends_here = its.sends_here; receives_here = its.receives_here; from = between.from; to = between.to }) in
     record {
       living = begun_living place.settings tick query ends l begun.ends_are begun.senders begun.receivers (begun.served ∙ ap (λ es. replicate (length (motions_of es)) None) (sym begun.ends_are));
       ends = subst (λ n. AreEnds place n l.ends) (sym begun.number_is) (subst (AreEnds place query) (sym begun.ends_are) are);
@@ -146,11 +144,11 @@ hub_begun s t front back l query ends cut is may are begun before behind =
       session = is.session;
       top = is.top;
       tabled = λ q.
-        get_put t.live query (keys_of ends) q
-        ∙ ap (λ r. cond (query == q) (Some (keys_of ends)) r) (is.tabled q ∙ ap (λ xs. keys_in xs q) (sym cut))
-        ∙ ap (λ n. cond (n == q) (Some (keys_of ends)) (keys_in (front ++ back) q)) (sym begun.number_is)
-        ∙ ap (λ es. cond (l.number == q) (Some (keys_of es)) (keys_in (front ++ back) q)) (sym begun.ends_are)
-        ∙ sym (keys_inserted front back l q none');
+          get_put t.live query (keys_of ends) q
+          ∙ ap (λ r. cond (query == q) (Some (keys_of ends)) r) (is.tabled q ∙ ap (λ xs. keys_in xs q) (sym cut))
+          ∙ ap (λ n. cond (n == q) (Some (keys_of ends)) (keys_in (front ++ back) q)) (sym begun.number_is)
+          ∙ ap (λ es. cond (l.number == q) (Some (keys_of es)) (keys_in (front ++ back) q)) (sym begun.ends_are)
+          ∙ sym (keys_inserted front back l q none');
       ascend = ascend_inserted front back l (subst Ascend (sym cut) is.ascend)
           (subst (λ n. AllByRecursion (λ (m : Living). m.number < n) front) (sym begun.number_is) before)
           (subst (λ n. AllByRecursion (λ (m : Living). n < m.number) back) (sym begun.number_is) (strictly query back behind apart));
@@ -190,27 +188,27 @@ new_stands s h query ends l stands are begun fresh away =
     let about : IsNought (place_in s) h e = about_new s h query ends fresh away in
     let clock : clock_of (h ++ e ∷ []) ≡ s.tick = clock_stays h e (quiet (place_in s) h e about).still ∙ stands.clock in
     let ahead : (end : ConnEnd) → Contains ends end → IsAhead end (h ++ e ∷ []) = (λ end has.
-      let is = (are.each end has).query_is in
-      let none : IsLiveQuery end.key.query h → ⊥ = (λ live. away (subst (λ n. IsLiveQuery n h) is live)) in
-      let new : IsOld end.key.query h → ⊥ = (λ old. fresh (subst (λ n. IsOld n h) is old)) in
-      stays_ahead (place_in s) h e end (AboutNone about) none (stands.goes.ahead end none new)) in
+    let is = (are.each end has).query_is in
+    let none : IsLiveQuery end.key.query h → ⊥ = (λ live. away (subst (λ n. IsLiveQuery n h) is live)) in
+    let new : IsOld end.key.query h → ⊥ = (λ old. fresh (subst (λ n. IsOld n h) is old)) in
+    stays_ahead (place_in s) h e end (AboutNone about) none (stands.goes.ahead end none new)) in
     record {
       senders = λ i o at.
-        let w = at_map (λ (x : ConnEnd). begun_at x s.settings s.tick) (sending_ends ends) i o (ap (λ xs. slice_get xs i) (sym (begun.senders ∙ senders_are s.settings s.tick ends)) ∙ at) in
-        let its = (ends_have_their_sides ends w.0).0.0 (at_contains (sending_ends ends) i w.0 w.1) in
-        let c = contains_at ends w.0 its.0 in
-        let first = all_at (SendsFirst s.settings s.tick) ends c.0 w.0 begun.sends c.1 in
-        subst (λ x. SenderStands x (h ++ e ∷ [])) w.2 (first its.1 (h ++ e ∷ []) clock (ahead w.0 its.0).sends);
+          let w = at_map (λ (x : ConnEnd). begun_at x s.settings s.tick) (sending_ends ends) i o (ap (λ xs. slice_get xs i) (sym (begun.senders ∙ senders_are s.settings s.tick ends)) ∙ at) in
+          let its = (ends_have_their_sides ends w.0).0.0 (at_contains (sending_ends ends) i w.0 w.1) in
+          let c = contains_at ends w.0 its.0 in
+          let first = all_at (SendsFirst s.settings s.tick) ends c.0 w.0 begun.sends c.1 in
+          subst (λ x. SenderStands x (h ++ e ∷ [])) w.2 (first its.1 (h ++ e ∷ []) clock (ahead w.0 its.0).sends);
       receivers = λ i r at.
-        let w = at_map (λ (x : ConnEnd). receiving.begun x s.settings) (receiving_ends ends) i r (ap (λ xs. slice_get xs i) (sym (begun.receivers ∙ receivers_are s.settings ends)) ∙ at) in
-        let its = (ends_have_their_sides ends w.0).1.0 (at_contains (receiving_ends ends) i w.0 w.1) in
-        let c = contains_at ends w.0 its.0 in
-        let first = all_at (ReceivesFirst s.settings) ends c.0 w.0 begun.receives c.1 in
-        subst (λ x. ReceiverStands s.settings x (h ++ e ∷ [])) w.2 (first its.1 (h ++ e ∷ []) (ahead w.0 its.0).receives);
+          let w = at_map (λ (x : ConnEnd). receiving.begun x s.settings) (receiving_ends ends) i r (ap (λ xs. slice_get xs i) (sym (begun.receivers ∙ receivers_are s.settings ends)) ∙ at) in
+          let its = (ends_have_their_sides ends w.0).1.0 (at_contains (receiving_ends ends) i w.0 w.1) in
+          let c = contains_at ends w.0 its.0 in
+          let first = all_at (ReceivesFirst s.settings) ends c.0 w.0 begun.receives c.1 in
+          subst (λ x. ReceiverStands s.settings x (h ++ e ∷ [])) w.2 (first its.1 (h ++ e ∷ []) (ahead w.0 its.0).receives);
       served = λ k motion last m at.
-        let none : last ≡ None = replicated_at (length (motions_of ends)) None k last (ap (λ xs. slice_get xs k) (sym begun.served) ∙ at) in
-        subst (λ o. LastServed l.number motion (h ++ e ∷ []) o) (sym none) (subst (λ n. LastServed n motion (h ++ e ∷ []) None) (sym begun.number_is)
-        (served_before query motion h e None (λ from served. let bad : Begin query ends ≡ Take query motion = served.ask in cc) (served_nobody query motion h stands.goes.ahead away fresh)));
+          let none : last ≡ None = replicated_at (length (motions_of ends)) None k last (ap (λ xs. slice_get xs k) (sym begun.served) ∙ at) in
+          subst (λ o. LastServed l.number motion (h ++ e ∷ []) o) (sym none) (subst (λ n. LastServed n motion (h ++ e ∷ []) None) (sym begun.number_is)
+          (served_before query motion h e None (λ from served. let bad : Begin query ends ≡ Take query motion = served.ask in cc) (served_nobody query motion h stands.goes.ahead away fresh)));
     }
 
 -- the hub stands with it
@@ -233,11 +231,12 @@ begun_stands_on s h front back l query ends cut shaped stands are begun fresh aw
         λ live. elim ((from.live q es).0 live) [
           | inl w ↦ record { at = length front; living = l; here = inserted_here front back l; number = begun.number_is ∙ sym w.0; ends_are = begun.ends_are ∙ sym w.1 }
           | inr old ↦ (
-            let a = (stands.live q es).0 old in
-            let w = inserted_on front back l a.at a.living (ap (λ xs. slice_get xs a.at) cut ∙ a.here) in
-            record { at = w.0; living = a.living; here = w.1; number = a.number; ends_are = a.ends_are })
+              let a = (stands.live q es).0 old in
+              let w = inserted_on front back l a.at a.living (ap (λ xs. slice_get xs a.at) cut ∙ a.here) in
+              record { at = w.0; living = a.living; here = w.1; number = a.number; ends_are = a.ends_are })
         ],
-        λ a. (from.live q es).1 (back_to q es a (inserted_at front back l a.at a.living a.here)));
+        λ a. (from.live q es).1 (back_to q es a (inserted_at front back l a.at a.living a.here)),
+      );
       each = λ i x here. elim (inserted_at front back l i x here) [
         | inl w ↦ subst (λ y. LivingStands s.settings y (h ++ e ∷ [])) (sym w) (new_stands s h query ends l stands are begun fresh away)
         | inr w ↦ nought_living s h e w.0 x shaped stands (ap (λ xs. slice_get xs w.0) (sym cut) ∙ w.1) about
@@ -308,9 +307,9 @@ enters_hub s t now query ends place keys reserved seen live l is are enters =
     let now_is : now ≡ table.begun t query (keys_of ends) = enters.now_is ∙ ap (λ ks. table.begun t query ks) enters.keys_are in
     let live_is : live ≡ front ++ l ∷ back = enters.live_is ∙ ap (λ xs. take place xs ++ l ∷ drop place xs) enters.reserved_is in
     let base : IsHub (record s { live = front ++ l ∷ back }) (table.begun t query (keys_of ends)) =
-        hub_begun s t front back l query ends (take-append-drop place s.live) is enters.may are enters.begun
-        (subst (λ xs. AllByRecursion (λ (m : Living). m.number < query) (take place xs)) seen_live enters.before)
-        (subst (λ xs. AllByRecursion (λ (m : Living). query ≤ m.number) (drop place xs)) seen_live enters.behind) in
+    hub_begun s t front back l query ends (take-append-drop place s.live) is enters.may are enters.begun
+    (subst (λ xs. AllByRecursion (λ (m : Living). m.number < query) (take place xs)) seen_live enters.before)
+    (subst (λ xs. AllByRecursion (λ (m : Living). query ≤ m.number) (drop place xs)) seen_live enters.behind) in
     subst (λ xs. IsHub (record s { top = now.top; live = xs }) now) (sym live_is)
     (subst (λ (u : Table). IsHub (record s { top = u.top; live = front ++ l ∷ back }) u) (sym now_is)
     (subst (λ o. IsHub (record s { top = o; live = front ++ l ∷ back }) (table.begun t query (keys_of ends))) (sym is.top) base))

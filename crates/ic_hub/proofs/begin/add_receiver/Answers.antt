@@ -1,7 +1,6 @@
-use Rattle.std.proofs.Common.{◌≡◌, List, subst}
-use Rattle.ic_law.specs.declared.history.Entry.{Entry}
+use Rattle.std.proofs.Common.{subst}
 use Rattle.ic_receiver.specs.Receiving.{Receiving}
-use Rattle.ic_receiver.specs.Standing.{IsUntouched, Stands}
+use Rattle.ic_receiver.specs.Standing.{Stands}
 use Rattle.ic_hub.proofs.begin.add_receiver.Goals as goal
 
 pub returns-clause-receives : goal.returns-clause-receives

@@ -1,13 +1,11 @@
-use Rattle.std.proofs.Common.{◌≡◌, ◌++◌, [], ◌∷◌, List, Ok, Err, ap, sym, ◌∙◌, subst}
+use Rattle.std.proofs.Common.{◌++◌, [], ◌∷◌, Err, ap, sym, ◌∙◌, subst}
 use Rattle.ic_base.specs.declared.keys.BeginNo.TheVariants.{Memory}
 use Rattle.ic_conntab.specs.Table.{Table}
 use Rattle.ic_places.specs.Ends.{keys_of}
-use Rattle.ic_law.specs.declared.history.Entry.{Entry}
 use Rattle.ic_law.specs.Asking.{AreEnds}
-use Rattle.ic_hub.specs.Hubbing.{Hubbing, Living, IsHub, place_in}
+use Rattle.ic_hub.specs.Hubbing.{Hubbing, Living, place_in}
 use Rattle.ic_hub.specs.Entries.{begin_entry}
 use Rattle.ic_hub.specs.Standing.{Stands}
-use Rattle.ic_hub.specs.Beginning.{IsBegun}
 use Rattle.ic_hub.proofs.Begun.{refused_stands, refused_memory, Enters, enters_hub, enters_stands}
 use Rattle.ic_hub.proofs.hub.Hub.begin.Goals as goal
 
