@@ -1,5 +1,6 @@
 -- A hub stands on where a query begins, or is refused.
-use Rattle.std.proofs.Common.{◌≡◌, ◌≢◌, ◌<◌, ◌≤◌, ℕ, zero, suc, List, [], ◌∷◌, ◌++◌, map, length, take, drop, Bool, true, false, cond, ◌==◌, Option, Some, None, Ok, Err, refl, ap, sym, ◌∙◌, subst, arith, inl, inr, ◌⊎◌, slice_get, is_some, replicate}
+use Rattle.std.proofs.Common.{◌≡◌, ◌≢◌, ◌<◌, ◌≤◌, ℕ, zero, suc, List, [], ◌∷◌, ◌++◌, map, length, take, drop, Bool, true, false, cond, ◌==◌, Option, Some, None, Result, Ok, Err, refl, ap, sym, ◌∙◌, subst, arith, inl, inr, ◌⊎◌, slice_get, is_some, replicate}
+use Rattle.std.specs.Result.{IsErrAnd}
 use Rattle.std.specs.List.{AllByRecursion, Contains}
 use Rattle.std.proofs.lemmas.List.{take-append-drop}
 use Rattle.std.proofs.lemmas.Bool.{leb-false}
@@ -264,8 +265,8 @@ live_then s h query stands has = by (has_keys s.live query)
     by (Live i l at number keys) = (l.ends, (stands.live query l.ends).1 (record { at = i; living = l; here = at; number = number; ends_are = refl }))
     by (NotLive away keys) = let bad : false ≡ true = ap is_some (sym keys) ∙ has in cc
 
-pub refused_stands : (s : Hubbing) (t : Table) (h : List Entry) (query : ℕ) (ends : List ConnEnd) (no : BeginNo) → IsHub s t → Stands s h → AreEnds (place_in s) query ends → ((top : ℕ) → no ≡ Old top → table.IsOld t query top)
-    → (no ≡ Twice → (is_past t.top query ≡ false) × table.IsLive t query) → Stands s (h ++ begin_entry query ends (Err no) ∷ [])
+pub refused_stands : (s : Hubbing) (t : Table) (h : List Entry) (query : ℕ) (ends : List ConnEnd) (refusal : BeginNo) → IsHub s t → Stands s h → AreEnds (place_in s) query ends → ((top : ℕ) → refusal ≡ Old top → table.IsOld t query top)
+    → (refusal ≡ Twice → (is_past t.top query ≡ false) × table.IsLive t query) → Stands s (h ++ begin_entry query ends (Err refusal) ∷ [])
 refused_stands s t h query ends (Old top) is stands are old twice =
     let o = old top refl in
     let greatest : IsGreatestLeft h top = subst (λ x. IsTop x h) (sym is.top ∙ o.0) stands.top in
@@ -283,6 +284,11 @@ refused_stands s t h query ends Memory is stands are old twice =
 pub refused_memory : (s : Hubbing) (t : Table) (h : List Entry) (query : ℕ) (ends : List ConnEnd) → IsHub s t → Stands s h → AreEnds (place_in s) query ends → Stands s (h ++ begin_entry query ends (Err Memory) ∷ [])
 refused_memory s t h query ends is stands are =
     refused_stands s t h query ends Memory is stands are (λ top same. let bad : Memory ≡ Old top = same in cc) (λ same. let bad : Memory ≡ Twice = same in cc)
+
+-- a refusal that is passed on is the same
+pub passed_on : {A E : Type 0} (r : Result A E) (refusal : E) → IsErrAnd r (λ e. e ≡ refusal) → r ≡ Err refusal
+passed_on (Ok a) refusal is = absurd is
+passed_on (Err e) refusal is = ap Err is
 
 -- ---- as a call does it
 

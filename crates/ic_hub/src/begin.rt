@@ -179,9 +179,7 @@ impl Hub {
         let Ok(()) = self.live.reserve(1) else {
             return Err(BeginNo::Memory);
         };
-        if let Err(no) = self.table.begin(alloc, query, begun.places.keys()) {
-            return Err(no);
-        }
+        self.table.begin(alloc, query, begun.places.keys())?;
         let place = place_for(self.live.as_slice(), query);
         insert(&mut self.live, place, begun);
         Ok(())
