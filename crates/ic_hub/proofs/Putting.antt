@@ -1,11 +1,13 @@
 -- A hub stands on with a put, or the end of stream, on one of its connections.
-use Rattle.std.proofs.Common.{◌≡◌, ◌≢◌, ◌<◌, ◌≤◌, ◌+◌, ℕ, ℤ, List, [], ◌∷◌, ◌++◌, set, length, Bool, true, false, Option, Some, None, Result, Ok, Err, refl, ap, sym, ◌∙◌, subst, inl, inr, ◌⊎◌, slice_get, get_or}
+use Rattle.std.proofs.Common.{◌≡◌, ◌≢◌, ◌<◌, ◌≤◌, ◌+◌, ℕ, ℤ, List, [], ◌∷◌, ◌++◌, set, length, Bool, true, false, Option, Some, None, Result, Ok, Err, refl, ap, sym, ◌∙◌, subst, inl, inr, ◌⊎◌, slice_get, get_or, arith}
 use Rattle.std.specs.Prelude.{IfOk, OnErr}
 use Rattle.std.specs.List.{Contains, AllByRecursion}
 use Rattle.std.proofs.lemmas.Option.{slice_get-get_or}
 use Rattle.ic_base.specs.declared.keys.ConnKey.{ConnKey}
 use Rattle.ic_base.specs.declared.keys.ConnEnd.{ConnEnd}
 use Rattle.ic_base.specs.declared.datagram.Datagram.{Datagram}
+use Rattle.ic_base.specs.declared.settings.Settings.{Settings}
+use Rattle.ic_chunk.proofs.ReadingLemmas.{length-spelled}
 use Rattle.ic_law.specs.declared.history.HubAsk.{HubAsk}
 use Rattle.ic_law.specs.declared.history.HubAsk.TheVariants.{Begin, Put, Finish, Clear, Leave}
 use Rattle.ic_law.specs.declared.history.HubReply.{HubReply}
@@ -14,7 +16,8 @@ use Rattle.ic_law.specs.declared.history.HubNo.{HubNo}
 use Rattle.ic_law.specs.declared.history.HubNo.TheVariants as no
 use Rattle.ic_law.specs.declared.history.Entry.{Entry}
 use Rattle.ic_law.specs.History.{datagrams_of, emits, leaves, finished_of}
-use Rattle.ic_law.specs.Points.{Place, IsFormed}
+use Rattle.ic_law.specs.Packets.{key_of, IsSegment}
+use Rattle.ic_law.specs.Points.{Place, IsDirected, IsFormed}
 use Rattle.ic_law.specs.Asking.{IsPuttable, IsAllowed, GoesOn}
 use Rattle.ic_law.specs.Arriving.{unknown}
 use Rattle.ic_law.specs.Hub.{IsReplyTo}
@@ -27,19 +30,25 @@ use Rattle.ic_sender.specs.Entries.{gave_of as gave}
 use Rattle.ic_outgoing.specs.Outgoing.{OutgoingState, SameEnd}
 use Rattle.ic_outgoing.specs.Emitted.{IsOutgoingOf, AreOutgoing}
 use Rattle.ic_outgoing.specs.Standing.{Stands as SenderStands, StandsNext}
-use Rattle.ic_outgoing.proofs.laws.are_formed.Answers.{returns as are_formed_law}
 use Rattle.ic_ends.specs.Entries.{IsPacketOf, IsOurs, AsksOf, OfPut, OfFinish, Concerns, UnknownPut, UnknownFinish}
 use Rattle.ic_hub.specs.Hubbing.{Hubbing, Living, IsLiving, IsOfHub, place_in}
 use Rattle.ic_hub.specs.Entries.{gave_of, put_entry, finish_entry}
-use Rattle.ic_hub.specs.Finding.{HasNo, SenderIs}
+use Rattle.ic_hub.specs.Finding.{HasNo, SenderIs, FindsSender}
 use Rattle.ic_hub.specs.Standing.{LivingStands, Stands}
-use Rattle.ic_hub.specs.Calls.{put_answer, put_no, MovesSender, PutsOn, Behind, Answered}
+use Rattle.ic_hub.specs.Calls.{put_answer, put_no, FitsAll, MovesSender, PutsOn, Behind, Answered}
 use Rattle.ic_hub.proofs.Places.{Shaped, all_at, contains_at, end_of_sender}
-use Rattle.ic_hub.proofs.Moving.{with_query, with_sender, sender_moved, nought_stands, memory_stands, unknown_key, set_same}
+use Rattle.ic_hub.proofs.Moving.{with_query, with_sender, sender_keeps, sender_moved, nought_stands, memory_stands, unknown_key, set_same}
 
 -- what is read at a place stands there
 pub at_index : {A : Type 0} (xs : List A) (i : ℕ) (x : A) → i < length xs → x ≡ get_or xs i x → slice_get xs i ≡ Some x
 at_index xs i x less is = slice_get-get_or xs i x less ∙ ap Some (sym is)
+
+abbrev pub set_in : Living → ℕ → OutgoingState → Living
+set_in l i o = record l { senders = set l.senders i o }
+
+-- behind the end of stream nothing is put
+pub behind : (place : ℕ) (Is : ConnKey → Result (List Datagram) SendNo → Entry → Type 0) (l : Living) (old : OutgoingState) → slice_get l.senders place ≡ Some old → old.sending.finished ≡ true → PutsOn place Is l l (Err no.Memory)
+behind place Is l old here finished = Behind old here finished refl refl
 
 -- ---- replies
 
@@ -82,6 +91,19 @@ gave_emits s (Err send.Memory) are d c = absurd (Contains-none d c)
 
 pub packet_of_it : (end : ConnEnd) (packet : ℕ) (d : Datagram) → IsOutgoingOf end packet d → IsPacketOf end.key true d
 packet_of_it end packet d is = record { packet = record { head = is.head; body = is.body }; reads = is.reads; key = is.key; way = is.forth }
+
+-- and has the form of what a hub there may emit
+pub are_formed : (place : Place) (end : ConnEnd) (packet : ℕ) (d : Datagram) → end.key.session ≡ place.session → end.key.from ≡ place.at → IsOutgoingOf end packet d → IsFormed place d
+are_formed place end packet d session at is =
+    record {
+      packet = record { head = is.head; body = is.body };
+      spelled = is.spelled;
+      session = ap (λ (k : ConnKey). k.session) is.key ∙ session;
+      src_content = subst IsSegment (sym (ap (λ (k : ConnKey). k.from) is.key)) is.from_is;
+      dst_content = subst IsSegment (sym (ap (λ (k : ConnKey). k.to) is.key)) is.to_is;
+      from = is.from ∙ at;
+      ends = subst (λ (b : Bool). IsDirected b d (key_of is.head)) (sym is.forth) (is.from ∙ sym (ap (λ (k : ConnKey). k.from) is.key), is.to ∙ sym (ap (λ (k : ConnKey). k.to) is.key));
+    }
 
 -- ---- one connection moves
 
@@ -164,3 +186,58 @@ finish_stands s h key q i l after result shaped stands found here (Answered answ
     (λ given. goes_on h old was unfinished) in
     let entry : e ≡ finish_entry key result = ap (λ k. record { ask = Finish k; reply = gave answer }) key_is ∙ ap (λ r. record { ask = Finish key; reply = r }) (sym (gave_is answer) ∙ ap gave_of (sym is)) in
     subst (λ x. Stands x (h ++ finish_entry key result ∷ [])) (ap (λ m. with_query s q m) (sym moves.is)) (subst (λ x. Stands (with_query s q (with_sender l i moves.new)) (h ++ x ∷ [])) entry done)
+
+-- ---- the hub's own
+
+-- a chunk has a header of 4 bytes
+pub chunk_least : (place : Place) (chunk : List ℕ) → IsPuttable place chunk → 4 ≤ length chunk
+chunk_least place chunk puttable =
+    let is : length chunk ≡ length puttable.chunk.body + 4 = ap length puttable.are ∙ length-spelled puttable.chunk in
+    omega (arith, is)
+
+-- it fits in a packet of each sender
+pub fits_all : (place : Place) (tick : ℕ) (l : Living) (chunk : List ℕ) → IsOfHub place tick l → IsPuttable place chunk → FitsAll l (length chunk)
+fits_all place tick l chunk of_hub puttable = go l.senders of_hub.settings
+  where
+    go : (os : List OutgoingState) → AllByRecursion (λ (o : OutgoingState). o.sending.settings ≡ place.settings) os → AllByRecursion (λ (o : OutgoingState). length chunk + 68 ≤ o.sending.settings.packet) os
+    go [] all = tt
+    go (o ∷ os) all = (subst (λ (x : Settings). length chunk + 68 ≤ x.packet) (sym all.0) puttable.room, go os all.1)
+
+-- no connection is found
+pub finds_none : (s : Hubbing) (key : ConnKey) (found : Option (ℕ × ℕ)) → FindsSender s key found → ((x : ℕ × ℕ) → found ≡ Some x → ⊥) → HasNo true s key
+finds_none s key None is none = is
+finds_none s key (Some x) is none = absurd (none x refl)
+
+on_err : {A E : Type 0} (result : Result A E) (P : Type 0) → ((e : E) → result ≡ Err e → P) → OnErr result P
+on_err (Ok a) P go = tt
+on_err (Err e) P go = go e refl
+
+answer_err : (answer : Result (List Datagram) SendNo) (e : HubNo) (P : Type 0) → put_answer answer ≡ Err e → OnErr answer P → P
+answer_err (Ok ds) e P is err = let bad : Ok ds ≡ Err e = is in cc
+answer_err (Err refusal) e P is err = err
+
+-- what is always true of the query stays so
+pub record PutKeeps (place : Place) (tick : ℕ) (l after : Living) : Type 0 where
+  pub number : after.number ≡ l.number
+  pub ends : after.ends ≡ l.ends
+  pub of_hub : IsOfHub place tick after
+
+pub put_keeps : (place : Place) (tick i : ℕ) (Is : ConnKey → Result (List Datagram) SendNo → Entry → Type 0) (l after : Living) (result : Result (List Datagram) HubNo) → IsOfHub place tick l → PutsOn i Is l after result → PutKeeps place tick l after
+put_keeps place tick i Is l after result of_hub (Behind old at finished is same) =
+    record { number = ap (λ (x : Living). x.number) same; ends = ap (λ (x : Living). x.ends) same; of_hub = subst (IsOfHub place tick) (sym same) of_hub }
+put_keeps place tick i Is l after result of_hub (Answered answer is moves unfinished err formed) =
+    record {
+      number = ap (λ (x : Living). x.number) moves.is;
+      ends = ap (λ (x : Living). x.ends) moves.is;
+      of_hub = subst (IsOfHub place tick) (sym moves.is) (sender_keeps place tick l i moves.old moves.new of_hub.living of_hub moves.here moves.end moves.now).1;
+    }
+
+-- a put that is refused changes nothing
+pub put_refused : (s : Hubbing) (q i : ℕ) (Is : ConnKey → Result (List Datagram) SendNo → Entry → Type 0) (l after : Living) (result : Result (List Datagram) HubNo) → slice_get s.live q ≡ Some l → PutsOn i Is l after result → OnErr result (with_query s q after ≡ s)
+put_refused s q i Is l after result here puts = on_err result (with_query s q after ≡ s) (λ e is. ap (λ xs. record s { live = xs }) (ap (λ m. set s.live q m) (same e is puts) ∙ set_same s.live q l here))
+  where
+    same : (e : HubNo) → result ≡ Err e → PutsOn i Is l after result → after ≡ l
+    same e is (Behind old at finished memory still) = still
+    same e is (Answered answer told moves unfinished err formed) =
+        let stays = answer_err answer e (moves.new ≡ moves.old) (sym told ∙ is) err in
+        moves.is ∙ ap (λ xs. record l { senders = xs }) (ap (λ o. set l.senders i o) stays ∙ set_same l.senders i moves.old moves.here)

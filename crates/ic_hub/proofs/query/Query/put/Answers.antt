@@ -1,21 +1,36 @@
-use Rattle.std.proofs.Common.{rules, ◌≡◌, ◌+◌, ◌<◌, ◌≤◌, ◌++◌, [], ◌∷◌, length, List, OnErr, ℕ, ◌-◌, ◌*◌, ◌/◌, ◌%◌, Bool, true, false, nat_eq, nat_lt, slice_index_or, slice_set, bit_and, bit_or, Fits, w8, w32, w64, Bor, MutBor}
-use Rattle.ic_law.specs.declared.history.Entry.{Entry}
-use Rattle.ic_law.specs.Asking.{IsPuttable}
-use Rattle.ic_sender.specs.Entries.{IsPutting, IsFinishing}
-use Rattle.ic_hub.specs.Hubbing.{place_in}
-use Rattle.ic_hub.specs.Entries.{put_entry, finish_entry}
-use Rattle.ic_hub.specs.Standing.{Stands}
-use Rattle.ic_hub.specs.Calls.{SamePlace, FitsAll, PutsOn}
+use Rattle.std.proofs.Common.{◌≡◌, false, Some, ap, sym, ◌∙◌, slice_get, slice_index_or}
+use Rattle.ic_outgoing.specs.Outgoing.{OutgoingState}
+use Rattle.ic_hub.specs.Hubbing.{Living}
+use Rattle.ic_hub.specs.Calls.{Answered}
+use Rattle.ic_hub.proofs.Putting.{at_index, behind, set_in}
+use Rattle.ic_hub.proofs.Moving.{sender_living}
 use Rattle.ic_hub.proofs.query.Query.put.Goals as goal
 
--- src/put.rt:28:13
 pub returns-then-is_finished : goal.returns-then-is_finished
-returns-then-is_finished c = ?
+returns-then-is_finished c =
+    let senders : c.args.self.now.senders ≡ c.self.inside.senders.items = ap (λ (l : Living). l.senders) (sym c.self.view_is) in
+    behind c.args.place _ c.args.self.now c.index.result.now (at_index c.args.self.now.senders c.args.place c.index.result.now c.requires.here (c.index.ensures ∙ ap (λ xs. slice_index_or xs c.args.place c.index.result.now) (sym senders)))
+    (sym c.is_finished.ensures.value ∙ c.if-is_finished.true)
 
--- src/put.rt:20:5
-pub invariant_of-self-2 : goal.invariant_of-self-2
-invariant_of-self-2 c = ?
+pub invariant_of-self : goal.invariant_of-self
+invariant_of-self c =
+    let senders : c.args.self.now.senders ≡ c.self.inside.senders.items = ap (λ (l : Living). l.senders) (sym c.self.view_is) in
+    let here = at_index c.args.self.now.senders c.args.place c.index_mut.result.now c.requires.here (c.index_mut.ensures.value ∙ ap (λ xs. slice_index_or xs c.args.place c.index_mut.result.now) (sym senders)) in
+    sender_living _ c.args.place c.index_mut.result.now c.put.new.self c.self.invariant (ap (λ xs. slice_get xs c.args.place) (sym senders) ∙ here) c.put.ensures.end.end
 
--- src/put.rt:20:5
 pub returns : goal.returns
-returns c = ?
+returns c =
+    let senders : c.args.self.now.senders ≡ c.self.inside.senders.items = ap (λ (l : Living). l.senders) (sym c.self.view_is) in
+    let here = at_index c.args.self.now.senders c.args.place c.index_mut.result.now c.requires.here (c.index_mut.ensures.value ∙ ap (λ xs. slice_index_or xs c.args.place c.index_mut.result.now) (sym senders)) in
+    let was = at_index c.args.self.now.senders c.args.place c.index.result.now c.requires.here (c.index.ensures ∙ ap (λ xs. slice_index_or xs c.args.place c.index.result.now) (sym senders)) in
+    let both : Some c.index_mut.result.now ≡ Some c.index.result.now = sym here ∙ was in
+    let same : c.index_mut.result.now ≡ c.index.result.now = cc in
+    Answered c.put.result c.put_answer.ensures (record {
+      old = c.index_mut.result.now;
+      new = c.put.new.self;
+      here = here;
+      is = ap (λ (l : Living). set_in l c.args.place c.put.new.self) c.self.view_is;
+      end = c.put.ensures.end;
+      now = c.put.ensures.now;
+      stands = c.put.ensures.stands;
+    }) (ap (λ (o : OutgoingState). o.sending.finished) same ∙ sym c.is_finished.ensures.value ∙ c.if-is_finished.false) c.put.ensures.err c.put.ensures.formed
