@@ -6,3 +6,4 @@ pub mod Moving
 pub mod ComingSteps
 pub mod Putting
 pub mod ComingSame
+pub mod ComingStands

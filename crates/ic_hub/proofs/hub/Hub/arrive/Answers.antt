@@ -1,6 +1,7 @@
 use Rattle.std.proofs.Common.{◌≡◌, OnErr, subst, List, Err}
 use Rattle.ic_hub.proofs.ComingSteps.{err_of}
 use Rattle.ic_hub.proofs.ComingSame.{arrives_without, counts_drop, counted_stands, on_err}
+use Rattle.ic_hub.proofs.ComingStands.{without, unread_stands, strange_stands, none_stands}
 use Rattle.ic_hub.proofs.hub.Hub.arrive.Goals as goal
 
 pub returns-in_err-how-clause-memory : goal.returns-in_err-how-clause-memory
