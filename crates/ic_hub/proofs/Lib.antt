@@ -7,3 +7,4 @@ pub mod ComingSteps
 pub mod Putting
 pub mod ComingSame
 pub mod ComingStands
+pub mod ComingQuery
