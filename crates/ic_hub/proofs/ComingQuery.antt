@@ -1,29 +1,26 @@
 -- A hub stands on with a datagram that came for one of its connections.
-use Rattle.std.proofs.Common.{◌≡◌, ◌≢◌, ℕ, ℤ, List, [], ◌∷◌, ◌++◌, set, not, Bool, true, false, Option, Some, None, Result, Ok, Err, refl, ap, sym, ◌∙◌, subst, inr, ◌⊎◌, slice_get}
+use Rattle.std.proofs.Common.{◌≡◌, ℕ, List, [], ◌∷◌, ◌++◌, set, not, Bool, true, false, Option, Some, None, Result, Ok, Err, refl, ap, sym, ◌∙◌, subst, inr, ◌⊎◌, slice_get}
 use Rattle.std.specs.List.{Contains}
-use Rattle.std.specs.declared.alloc.AllocError.{AllocError}
 use Rattle.ic_base.specs.declared.keys.ConnKey.{ConnKey}
 use Rattle.ic_base.specs.declared.keys.ConnEnd.{ConnEnd}
 use Rattle.ic_base.specs.declared.datagram.Datagram.{Datagram}
 use Rattle.ic_header.specs.declared.flags.Flags.{Flags}
-use Rattle.ic_header.specs.declared.flags.Flags.TheVariants.{Ack, Stop, Query, Disorder, Duplicate}
+use Rattle.ic_header.specs.declared.flags.Flags.TheVariants.{Ack, Stop, Disorder, Duplicate}
 use Rattle.ic_header.specs.declared.header.Header.{Header}
 use Rattle.ic_header.specs.Reading.{read_header}
 use Rattle.ic_recvring.specs.Ring.{Ring, Packet as Kept}
 use Rattle.ic_law.specs.declared.history.HubAsk.TheVariants.{Arrive, Take}
-use Rattle.ic_law.specs.declared.history.HubReply.TheVariants.{Came, Memory}
+use Rattle.ic_law.specs.declared.history.HubReply.TheVariants.{Memory}
 use Rattle.ic_law.specs.declared.history.Arrived.TheVariants.{Handled, Dropped}
 use Rattle.ic_law.specs.declared.history.DropCause.TheVariants as cause
 use Rattle.ic_law.specs.declared.history.Entry.{Entry}
 use Rattle.ic_law.specs.Hub.{kind_replied}
 use Rattle.ic_law.specs.Hub.Kind.{Coming}
-use Rattle.ic_law.specs.Packets.{packet_of, key_of, goes_forth}
+use Rattle.ic_law.specs.Packets.{key_of, goes_forth}
 use Rattle.ic_law.specs.History.{emits, datagrams_of}
-use Rattle.ic_law.specs.Points.{IsFormed, IsDirected}
-use Rattle.ic_law.specs.Receiving.{listing}
-use Rattle.ic_law.specs.Arriving.{IsServed}
+use Rattle.ic_law.specs.Points.{IsDirected}
 use Rattle.ic_law.proofs.Lists.{Contains-none, Contains-one}
-use Rattle.ic_places.specs.Ends.{keys_of, sender_at, receiver_at}
+use Rattle.ic_places.specs.Ends.{sender_at, receiver_at}
 use Rattle.ic_places.specs.declared.slots.Sides.{Sides}
 use Rattle.ic_places.proofs.Named.{keys_are_of_ends}
 use Rattle.ic_sender.specs.declared.send_no.SendNo.{SendNo}
@@ -34,7 +31,7 @@ use Rattle.ic_outgoing.specs.Emitted.{IsOutgoingOf}
 use Rattle.ic_outgoing.specs.Standing.{StandsNext}
 use Rattle.ic_receiver.specs.Receiving.{Receiving, Hears, Stopped, Running, HearsRows, Again, Far, Kept as KeptNow, TellsStored, Next, Gap, HearsQuery, QueryStopped, QueryTold, IsAnswer}
 use Rattle.ic_receiver.specs.Standing.{Stands as ReceiverStands}
-use Rattle.ic_ends.specs.Entries.{IsOurs, IsPacketOf, AsksOf, OfArrive, Concerns}
+use Rattle.ic_ends.specs.Entries.{IsOurs, OfArrive}
 use Rattle.ic_ends.specs.Formed.{IsFormedOf}
 use Rattle.ic_ends.proofs.Forms.{answers_formed}
 use Rattle.ic_ends.proofs.Served.{served_before}
@@ -44,7 +41,7 @@ use Rattle.ic_hub.specs.Hubbing.{Hubbing, Living, place_in}
 use Rattle.ic_hub.specs.Entries.{arrive_entry, came_of}
 use Rattle.ic_hub.specs.Finding.{IsFound, OfOther, NoSuchKey, OfEnded, OfUnbegun, There, SenderIs, ReceiverIs}
 use Rattle.ic_hub.specs.Standing.{Stands}
-use Rattle.ic_hub.specs.Coming.{Became, kept_of, told_of, Asks, WithRows, WithQuery, HearsForth, ForthWithout, Forth, HearsBack, BackWithout, Strays, Back, ReceiverHears, SenderHears, IsAddressed, ComesToQuery, AtReceiver, AtSender, NoReceiver, NoSender, Comes, ToNobody, ToNone, ToQuery, Arrives, Unread, Read}
+use Rattle.ic_hub.specs.Coming.{Became, kept_of, told_of, Asks, WithRows, WithQuery, HearsForth, ForthWithout, Forth, HearsBack, BackWithout, Strays, Back, ReceiverHears, SenderHears, IsAddressed, ComesToQuery, AtReceiver, AtSender, NoReceiver, NoSender, ToNobody, ToNone, ToQuery, Arrives, Unread, Read}
 use Rattle.ic_hub.proofs.Places.{Shaped, all_at, contains_at, end_of_receiver, end_of_sender}
 use Rattle.ic_hub.proofs.Finds.{here_is, finds_sender, finds_receiver, no_sender, no_receiver}
 use Rattle.ic_hub.proofs.Moving.{set_same, with_query, with_sender, with_receiver, sender_moved, receiver_moved}

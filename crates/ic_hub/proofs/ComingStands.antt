@@ -1,24 +1,23 @@
 -- A hub stands on with a datagram that came.
-use Rattle.std.proofs.Common.{◌≡◌, ◌≢◌, ◌≤◌, ℕ, ℤ, List, [], ◌∷◌, ◌++◌, set, Bool, true, false, Option, Some, None, Result, Ok, Err, refl, ap, sym, ◌∙◌, subst, inl, inr, slice_get}
+use Rattle.std.proofs.Common.{◌≡◌, ℕ, List, [], ◌∷◌, ◌++◌, Bool, true, false, Option, Some, None, Ok, Err, refl, ap, sym, ◌∙◌, subst, slice_get}
 use Rattle.std.specs.List.{Contains}
 use Rattle.std.proofs.lemmas.Bool.{leb-true, le-leb}
 use Rattle.std.specs.declared.alloc.AllocError.{AllocError}
 use Rattle.ic_base.specs.declared.keys.ConnKey.{ConnKey}
 use Rattle.ic_base.specs.declared.keys.ConnEnd.{ConnEnd}
 use Rattle.ic_base.specs.declared.datagram.Datagram.{Datagram}
-use Rattle.ic_header.specs.declared.flags.Flags.{Flags}
-use Rattle.ic_header.specs.declared.flags.Flags.TheVariants.{Ack, Stop, Nak, Query, Disorder, Duplicate}
+use Rattle.ic_header.specs.declared.flags.Flags.TheVariants.{Stop, Nak}
 use Rattle.ic_header.specs.declared.header.Header.{Header}
 use Rattle.ic_header.specs.Reading.{read_header}
-use Rattle.ic_law.specs.declared.history.HubAsk.TheVariants.{Begin, Arrive, Take, Clear}
-use Rattle.ic_law.specs.declared.history.HubReply.TheVariants.{Came, Memory}
+use Rattle.ic_law.specs.declared.history.HubAsk.TheVariants.{Begin, Arrive, Clear}
+use Rattle.ic_law.specs.declared.history.HubReply.TheVariants.{Came}
 use Rattle.ic_law.specs.declared.history.Arrived.TheVariants.{Handled, Dropped}
 use Rattle.ic_law.specs.declared.history.DropCause.TheVariants as cause
 use Rattle.ic_law.specs.declared.history.Entry.{Entry}
-use Rattle.ic_law.specs.Packets.{packet_of, packet_read, key_of, goes_forth}
-use Rattle.ic_law.specs.History.{emits, datagrams_of, left_of}
-use Rattle.ic_law.specs.Points.{IsFormed, IsHere, IsDirected}
-use Rattle.ic_law.specs.Arriving.{IsForeign, NoSegment, NotHere, Misdirected, OtherSession, NoSuchKey, IsLiveQuery, IsOld, IsServed}
+use Rattle.ic_law.specs.Packets.{packet_of, packet_read, key_of}
+use Rattle.ic_law.specs.History.{datagrams_of}
+use Rattle.ic_law.specs.Points.{IsFormed, IsHere}
+use Rattle.ic_law.specs.Arriving.{IsForeign, NoSegment, NotHere, Misdirected, OtherSession, NoSuchKey, IsLiveQuery, IsOld}
 use Rattle.ic_law.proofs.Lists.{Contains-none, Contains-one}
 use Rattle.ic_conntab.specs.Table.{is_past}
 use Rattle.ic_places.specs.Ends.{keys_of}
@@ -30,7 +29,7 @@ use Rattle.ic_hub.specs.Hubbing.{Hubbing, Living, place_in}
 use Rattle.ic_hub.specs.Entries.{arrive_entry, came_of}
 use Rattle.ic_hub.specs.Finding.{IsNotLive}
 use Rattle.ic_hub.specs.Standing.{IsTop, Stands}
-use Rattle.ic_hub.specs.Coming.{Became, IsAddressed, Addressed, IsOfNone, Astray, NoKey, ComesToNone, NoneWithout, Turned, TooLate, TurnsBack, turns}
+use Rattle.ic_hub.specs.Coming.{Became, IsAddressed, Addressed, IsOfNone, Astray, NoKey, ComesToNone, NoneWithout, Turned, TooLate, TurnsBack}
 use Rattle.ic_hub.specs.Coming.{NoSegment as Unnamed, NotHere as Elsewhere, Misdirected as Crossed, OtherSession as Outside}
 use Rattle.ic_hub.proofs.Places.{Shaped}
 use Rattle.ic_hub.proofs.Moving.{nought_stands, memory_stands}

@@ -1,5 +1,5 @@
 -- What each step of hearing a datagram gives, as it is.
-use Rattle.std.proofs.Common.{◌≡◌, ℕ, ℤ, ◌+◌, ◌^◌, ◌<◌, ◌++◌, List, [], ◌∷◌, set, length, Bool, true, false, Option, Some, None, Result, Ok, Err, is_err, refl, ap, sym, ◌∙◌, subst, slice_get, slice_index_or, IfOk, OnErr}
+use Rattle.std.proofs.Common.{◌≡◌, ℕ, ℤ, ◌+◌, ◌^◌, ◌<◌, List, [], set, length, Bool, true, false, Option, Some, None, Result, Ok, Err, is_err, refl, ap, sym, ◌∙◌, subst, slice_get, slice_index_or, IfOk, OnErr}
 use Rattle.std.proofs.lemmas.Option.{slice_get-get_or, slice_get_within}
 use Rattle.std.proofs.lemmas.List.{length-append}
 use Rattle.std.specs.declared.alloc.AllocError.{AllocError}

@@ -1,5 +1,4 @@
-use Rattle.std.proofs.Common.{List, [], ◌∷◌, ◌++◌, Ok, Err, sym, subst}
-use Rattle.std.specs.declared.alloc.AllocError.{AllocError}
+use Rattle.std.proofs.Common.{[], ◌∷◌, ◌++◌, Ok, sym, subst}
 use Rattle.ic_hub.specs.Hubbing.{Hubbing, IsHub}
 use Rattle.ic_hub.specs.Standing.{Stands}
 use Rattle.ic_hub.specs.Entries.{arrive_entry}
