@@ -12,3 +12,5 @@ pub mod TakingAny
 pub mod ComingSteps
 pub mod ComingSame
 mod Ticking
+pub mod ComingStands
+pub mod ComingQuery
