@@ -5,3 +5,6 @@ pub mod Finds
 pub mod Moving
 pub mod Putting
 mod Ticking
+mod TickingEmits
+mod TickingStands
+mod TickingRefused
