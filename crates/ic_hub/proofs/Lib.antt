@@ -11,7 +11,7 @@ pub mod Choosing
 pub mod TakingAny
 pub mod ComingSteps
 pub mod ComingSame
-mod Ticking
-mod TickingEmits
-mod TickingStands
-mod TickingRefused
+pub mod Ticking
+pub mod TickingEmits
+pub mod TickingStands
+pub mod TickingRefused

@@ -15,15 +15,15 @@ use Rattle.ic_law.proofs.Lists.{flat_map-append, Contains-flat_map, Contains-mid
 use Rattle.ic_sender.specs.Entries.{AreAmong}
 use Rattle.ic_outgoing.specs.Outgoing.{OutgoingState, datagrams_due, queries_due}
 use Rattle.ic_outgoing.specs.Emitted.{IsOutgoingOf, AreOutgoing}
-use Rattle.ic_outgoing.proofs.laws.are_formed.Answers.{returns as are_formed_law}
 use Rattle.ic_ends.specs.Entries.{IsSentHere}
 use Rattle.ic_ends.proofs.Telling.{rows_not, queries_not_of, flat_none}
 use Rattle.ic_hub.specs.Hubbing.{Hubbing, Living, place_in}
 use Rattle.ic_hub.specs.Standing.{Stands}
 use Rattle.ic_hub.specs.Ticking.{MayResend, MayAsk, MayTick, emission_of}
-use Rattle.ic_hub.proofs.Places.{Shaped, all_at, at_contains, contains_at, end_of_sender, one_sender, some_one}
+use Rattle.ic_hub.proofs.Places.{Shaped, all_at, at_contains, contains_at, end_of_sender, one_sender}
+use Rattle.ic_hub.proofs.Ticking.{some_one}
 use Rattle.ic_hub.proofs.Moving.{has_end}
-use Rattle.ic_hub.proofs.Putting.{packet_of_it, ours_of}
+use Rattle.ic_hub.proofs.Putting.{packet_of_it, ours_of, are_formed}
 
 -- ---- lists of lists
 
@@ -140,7 +140,7 @@ formed_here s d shaped all c =
     let w = emitted_by s d c in
     let its = end_of_sender w.living w.place w.sender (shaped.living w.query w.living w.live) w.here in
     let ours = ours_of s w.query w.place w.living w.sender shaped w.live w.here in
-    are_formed_law (place_in s) w.sender.sending.end w.sender.sending.settings.packet d ours.session (ours.sends_here its.side_is) (outgoing_of s d w all)
+    are_formed (place_in s) w.sender.sending.end w.sender.sending.settings.packet d ours.session (ours.sends_here its.side_is) (outgoing_of s d w all)
 
 -- ---- all of them
 

@@ -25,8 +25,9 @@ use Rattle.ic_hub.specs.Hubbing.{Hubbing, Living, IsLiving, IsHub, place_in}
 use Rattle.ic_hub.specs.Entries.{tick_entry}
 use Rattle.ic_hub.specs.Standing.{IsAmong, Stands}
 use Rattle.ic_hub.specs.Ticking.{MayResend, MayAsk, MayTick, RefusedFor, GivenUp, Roomless, RefusedFirst, RefusedIn, OfPacket, OfQuery, OfNone}
-use Rattle.ic_hub.proofs.Places.{Shaped, SenderOf, sender_of, end_of_sender, all_at, at_map, map_at, apart_or_same, some_one}
+use Rattle.ic_hub.proofs.Places.{Shaped, SenderOf, sender_of, end_of_sender, all_at, at_map, map_at, apart_or_same}
 use Rattle.ic_hub.proofs.Shape.{shape_of, less_at}
+use Rattle.ic_hub.proofs.Ticking.{some_one}
 use Rattle.ic_hub.proofs.Moving.{nought_stands, memory_stands}
 
 -- ---- ends before one
