@@ -14,3 +14,7 @@ pub mod ComingSame
 mod Ticking
 pub mod ComingStands
 pub mod ComingQuery
+pub mod Ticking
+pub mod TickingEmits
+pub mod TickingStands
+pub mod TickingRefused

@@ -8,7 +8,7 @@ use Rattle.ic_hub.proofs.Places.{Shaped, all_at, apart_or_same}
 
 -- ---- numbers that ascend
 
-less_at : (live : List Living) (i j : ℕ) (a b : Living) → Ascend live → i < j → slice_get live i ≡ Some a → slice_get live j ≡ Some b → a.number < b.number
+pub less_at : (live : List Living) (i j : ℕ) (a b : Living) → Ascend live → i < j → slice_get live i ≡ Some a → slice_get live j ≡ Some b → a.number < b.number
 less_at [] i j a b up less ai bj = let bad : None ≡ Some a = ai in cc
 less_at (x ∷ xs) zero zero a b up less ai bj = absurd (omega (arith, less))
 less_at (x ∷ xs) zero (suc j) a b up less ai bj = let same : x ≡ a = cc in subst (λ (y : Living). y.number < b.number) same (all_at _ xs j b up.0 bj)

@@ -1,6 +1,6 @@
 -- A walk over connections, each with what it is at the next tick.
 use Rattle.std.proofs.Common.{◌≡◌, ◌≢◌, ◌<◌, ◌≤◌, ◌+◌, ℕ, zero, suc, List, [], ◌∷◌, ◌++◌, set, take, drop, map, length, cond, ◌==◌, Option, Some, None, Result, Ok, Err, refl, ap, sym, ◌∙◌, subst, arith, inl, inr, ◌⊎◌, slice_get, get_or, append-nil, append_assoc}
-use Rattle.std.specs.Result.{IfErr, IsErrAnd}
+use Rattle.std.specs.Result.{IfErr, IsErr, IsErrAnd}
 use Rattle.std.specs.List.{AllByRecursion, flat_map}
 use Rattle.std.proofs.lemmas.Option.{slice_get_within, slice_get-get_or, get_or_from_slice_get}
 use Rattle.ic_conntab.specs.Table.{Table}
@@ -231,3 +231,13 @@ pub hub_then : (s : Hubbing) (table : Table) (tick : ℕ) (live : List Living) �
     → IsHub (record s { tick = tick; live = live }) table
 hub_then s table tick live tick_is live_is is all =
     subst (λ n. IsHub (record s { tick = n; live = live }) table) (sym tick_is) (subst (λ xs. IsHub (record s { tick = next_tick s.tick; live = xs }) table) (sym live_is) (hub_ticked s table is all))
+
+-- ---- options
+
+pub some_one : {A : Type 0} (a b : A) → Some a ≡ Some b → a ≡ b
+some_one a b h = cc
+
+-- what holds of a refusal holds of the answer that hands it on
+pub handed_back : {A : Type 0} (P : Result A TickNo → Type 0) (r : Result A TickNo) (refusal : TickNo) → IsErr r → IsErrAnd r (λ e. e ≡ refusal) → P (Err refusal) → P r
+handed_back P (Ok a) refusal err is here = absurd (cc)
+handed_back P (Err e) refusal err is here = subst (λ x. P (Err x)) (sym is) here
