@@ -11,7 +11,6 @@ pub mod Choosing
 pub mod TakingAny
 pub mod ComingSteps
 pub mod ComingSame
-mod Ticking
 pub mod ComingStands
 pub mod ComingQuery
 pub mod Ticking
