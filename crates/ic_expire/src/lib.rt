@@ -1,7 +1,7 @@
 //! The packets that wait for an answer, by the tick at which their time is over. No packet's bytes, no sending and no
 //! clock: the caller says which tick it is.
 //!
-//! The hub keeps one [`Expiry`] for each query. A sender `put`s each packet that it emits, and `cut`s those that an
+//! Each sending connection has an [`Expiry`]. A sender `put`s each packet that it emits, and `cut`s those that an
 //! answer frees. Each tick asks for what is `due`: these packets are taken out, and whoever emits them again `put`s
 //! them again. Where a tick may still be refused it first looks, with `due_at`, and then lets the time `pass`. Ticks are
 //! the caller's count, from 0.

@@ -3,8 +3,14 @@ pub mod Shape
 pub mod Found
 pub mod Finds
 pub mod Moving
-pub mod ComingSteps
+pub mod Receivers
+pub mod Taking
 pub mod Putting
+pub mod Leaving
+pub mod Choosing
+pub mod TakingAny
+pub mod ComingSteps
 pub mod ComingSame
 pub mod ComingStands
 pub mod ComingQuery
+mod Ticking

@@ -165,7 +165,7 @@ pub record IsOne (q r i j : ℕ) : Type 0 where
   pub query : q ≡ r
   pub place : i ≡ j
 
-some_one : {A : Type 0} (a b : A) → Some a ≡ Some b → a ≡ b
+pub some_one : {A : Type 0} (a b : A) → Some a ≡ Some b → a ≡ b
 some_one a b h = cc
 
 -- two senders of one key are one

@@ -3,5 +3,8 @@ pub mod Entries
 pub mod Finding
 pub mod Standing
 pub mod Calls
+pub mod Leaving
+pub mod Ticking
 pub mod Laws
+pub mod Taking
 pub mod Coming

@@ -1,7 +1,9 @@
 // Queries that end.
 ghost use Rattle.std.specs.Prelude.{◌≡◌, ◌++◌, [], ◌∷◌, List, OnErr};
 ghost use Rattle.ic_law.specs.declared.history.Entry.{Entry};
+ghost use Rattle.ic_places.specs.Slots.{IsWithin};
 ghost use Rattle.ic_hub.specs.Entries.{clear_entry, leave_entry};
+ghost use Rattle.ic_hub.specs.Leaving.{TellsClear, TellsUnclear};
 ghost use Rattle.ic_hub.specs.Standing.{Stands};
 ghost use Rattle.ic_hub.specs.Calls.{SamePlace, IsLiveIn};
 
@@ -13,7 +15,10 @@ use ic_places::Slot;
 
 impl Query {
     /// Whether the connection of an end is over.
-    fn is_over(&self, slot: Slot) -> bool {
+    fn is_over(&self, slot: Slot) -> bool
+        requires { IsWithin self.now.ends slot }
+        ensures { TellsClear self.now slot result }
+    {
         match slot {
             Slot::Sender(place) => self.senders[place].is_over(),
             Slot::Receiver(place) => self.receivers[place].is_over(),
@@ -22,6 +27,7 @@ impl Query {
 
     /// The first end whose connection isn't over.
     fn first_unclear(&self) -> Option<ConnKey>
+        ensures { TellsUnclear self.now result }
     {
         let ends = self.places.ends();
         for (place, slot) in self.places.order().iter().enumerate() {

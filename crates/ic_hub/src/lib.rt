@@ -24,7 +24,7 @@ mod take;
 mod tick;
 
 pub use hub::Hub;
-pub use laws::{keeps_law, stays_armed};
+pub use laws::{keeps_law, live_tells, stays_armed};
 
 #[cfg(test)]
 mod tests;

@@ -1,10 +1,12 @@
 // Parcels that the slice takes, and connections that it halts.
-ghost use Rattle.std.specs.Prelude.{◌≡◌, ◌<◌, ◌++◌, [], ◌∷◌, length, vec_len, vec_capacity, List, OnErr};
+ghost use Rattle.std.specs.Prelude.{◌≡◌, ◌<◌, ◌++◌, [], ◌∷◌, ℕ, Some, All, length, slice_get, vec_len, vec_capacity, List, OnErr};
 ghost use Rattle.ic_law.specs.declared.history.Entry.{Entry};
 ghost use Rattle.ic_places.specs.Ends.{motions_of};
+ghost use Rattle.ic_receiver.specs.Entries.{list_of};
 ghost use Rattle.ic_hub.specs.Entries.{take_entry, take_from_entry, halt_entry};
 ghost use Rattle.ic_hub.specs.Standing.{Stands};
 ghost use Rattle.ic_hub.specs.Calls.{SamePlace};
+ghost use Rattle.ic_hub.specs.Taking.{Takes, HaltsOne, TakesAt, HaltsAt, rank_of, IsFirstOf, FindsFirst, Refuses, TakesAny};
 
 use crate::hub::Hub;
 use crate::query::Query;
@@ -14,44 +16,69 @@ use ic_law::HubNo;
 use ic_receiver::Receiver;
 use std::alloc::Global;
 
-/// What comes first in cyclic order behind the segment served last has the least rank.
-fn rank(last: Option<SegId>, from: SegId) -> i32 {
+/// A receiver that is ready, by its place, with its rank in cyclic order.
+#[derive(Clone, Copy)]
+struct Ranked {
+    place: usize,
+    rank: i32,
+}
+
+/// How many segments there are, -1..=63: any number less this is below every number.
+const SEGMENTS: i32 = 65;
+
+/// Who comes first in cyclic order behind the segment served last has the least rank.
+fn rank(last: Option<SegId>, from: SegId) -> i32
+    ensures { result ≡ rank_of last from }
+{
     let from = from.number();
     match last {
-        Some(last) if from > last.number() => from - 65,
+        Some(last) if last.number() < from => from - SEGMENTS,
         _ => from,
     }
 }
 
-/// Whether the receiver at this place comes before the first one found so far.
-fn comes_first(
-    receivers: &[Receiver],
-    first: Option<usize>,
+/// The first of the one found so far and the receiver at this place, where that is ready.
+fn first_of(
+    first: Option<Ranked>,
+    receiver: &Receiver,
     place: usize,
     last: Option<SegId>,
-) -> bool {
+) -> Option<Ranked>
+    ensures { IsFirstOf first receiver.now place last result }
+{
+    if !receiver.is_ready() {
+        return first;
+    }
+    let rank = rank(last, receiver.from());
     match first {
-        None => true,
-        Some(first) => {
-            rank(last, receivers[place].from()) < rank(last, receivers[first].from())
-        }
+        Some(found) if found.rank <= rank => first,
+        _ => Some(Ranked { place, rank }),
     }
 }
 
 /// The place of the first ready one of the receivers at these places, in cyclic order behind the sender served last.
-fn first_ready(receivers: &[Receiver], places: &[usize], last: Option<SegId>) -> Option<usize> {
-    let mut first: Option<usize> = None;
+fn first_ready(receivers: &[Receiver], places: &[usize], last: Option<SegId>) -> Option<usize>
+    requires within { All (λ place. place < length receivers.now) places.now }
+    ensures { FindsFirst receivers.now places.now last result }
+{
+    let mut first = None;
     for place in places {
-        if receivers[*place].is_ready() && comes_first(receivers, first, *place, last) {
-            first = Some(*place);
-        }
+        first = first_of(first, &receivers[*place], *place, last);
     }
-    first
+    Some(first?.place)
 }
 
-/// Whether none of the receivers at these places has anything more to give.
-fn are_over(receivers: &[Receiver], places: &[usize]) -> bool {
-    places.iter().all(|place| receivers[*place].is_over())
+/// Why none of the receivers at these places hands a parcel over.
+fn refusal(receivers: &[Receiver], places: &[usize]) -> HubNo
+    requires within { All (λ place. place < length receivers.now) places.now }
+    ensures { Refuses receivers.now places.now result }
+{
+    for place in places {
+        if !receivers[*place].is_over() {
+            return HubNo::Empty;
+        }
+    }
+    HubNo::Ended
 }
 
 /// One datagram in a list that has room for it.
@@ -66,58 +93,73 @@ pub(crate) fn listed(room: Vec<Datagram>, datagram: Datagram) -> Datagrams
 }
 
 /// Nothing, or one datagram in a list that has room for it.
-pub(crate) fn listed_or_none(room: Vec<Datagram>, datagram: Option<Datagram>) -> Datagrams {
+pub(crate) fn listed_or_none(room: Vec<Datagram>, datagram: Option<Datagram>) -> Datagrams
+    requires none { vec_len room ≡ 0 }
+    requires room { 0 < vec_capacity room }
+    ensures { result ≡ list_of datagram }
+{
     match datagram {
         Some(datagram) => listed(room, datagram),
         None => Datagrams::from_vec(room),
     }
 }
 
+/// The next parcel of a receiver, with the datagram that tells its sender of the new room. The room for the list of that
+/// one is taken before anything changes.
+fn take_one(alloc: Global, receiver: &mut Receiver) -> Result<(Parcel, Datagrams), HubNo>
+    ensures { Takes receiver.old receiver.new result }
+{
+    let Ok(room) = Vec::with_capacity(alloc, 1) else {
+        return Err(HubNo::Memory);
+    };
+    match receiver.take(alloc) {
+        Ok((parcel, told)) => Ok((parcel, listed(room, told))),
+        Err(no) => Err(take_no(no)),
+    }
+}
+
+/// Halts a receiver. The room for the list of the datagram is taken before anything changes.
+fn halt_one(alloc: Global, receiver: &mut Receiver) -> Result<Datagrams, HubNo>
+    ensures { HaltsOne receiver.old receiver.new result }
+{
+    let Ok(room) = Vec::with_capacity(alloc, 1) else {
+        return Err(HubNo::Memory);
+    };
+    match receiver.halt(alloc) {
+        Ok(told) => Ok(listed_or_none(room, told)),
+        Err(_) => Err(HubNo::Memory),
+    }
+}
+
 impl Query {
-    fn take(
-        &mut self,
-        alloc: Global,
-        place: usize,
-    ) -> Result<(Parcel, Datagrams), HubNo>
+    /// A take of the receiver at this place.
+    fn take(&mut self, alloc: Global, place: usize) -> Result<(Parcel, Datagrams), HubNo>
         requires here { place < length self.old.receivers }
+        ensures { TakesAt place self.old self.new result }
     {
-        let Ok(room) = Vec::with_capacity(alloc, 1) else {
-            return Err(HubNo::Memory);
-        };
-        let (parcel, told) = self.receivers[place].take(alloc).map_err(take_no)?;
-        Ok((parcel, listed(room, told)))
+        take_one(alloc, &mut self.receivers[place])
     }
 
-    /// A take of any sender of the motion at this place.
-    fn take_any(
-        &mut self,
-        alloc: Global,
-        motion: usize,
-    ) -> Result<(Parcel, Datagrams), HubNo>
+    /// A take of any sender of the motion at this place. What it takes is noted as served last.
+    fn take_any(&mut self, alloc: Global, motion: usize) -> Result<(Parcel, Datagrams), HubNo>
         requires here { motion < length (motions_of self.old.ends) }
+        ensures { (number : ℕ) → slice_get (motions_of self.old.ends) motion ≡ Some number → TakesAny motion number self.old self.new result }
     {
         let places = self.places.receivers(motion);
         let Some(place) = first_ready(self.receivers.as_slice(), places, self.served[motion]) else {
-            if are_over(self.receivers.as_slice(), places) {
-                return Err(HubNo::Ended);
-            }
-            return Err(HubNo::Empty);
+            return Err(refusal(self.receivers.as_slice(), places));
         };
-        let (parcel, told) = self.take(alloc, place)?;
+        let (parcel, told) = take_one(alloc, &mut self.receivers[place])?;
         self.served[motion] = Some(parcel.from);
         Ok((parcel, told))
     }
 
+    /// Halts the receiver at this place.
     fn halt(&mut self, alloc: Global, place: usize) -> Result<Datagrams, HubNo>
         requires here { place < length self.old.receivers }
+        ensures { HaltsAt place self.old self.new result }
     {
-        let Ok(room) = Vec::with_capacity(alloc, 1) else {
-            return Err(HubNo::Memory);
-        };
-        match self.receivers[place].halt(alloc) {
-            Ok(told) => Ok(listed_or_none(room, told)),
-            Err(_) => Err(HubNo::Memory),
-        }
+        halt_one(alloc, &mut self.receivers[place])
     }
 }
 
@@ -145,11 +187,7 @@ impl Hub {
     }
 
     /// The slice takes the next parcel of one sender.
-    pub fn take_from(
-        &mut self,
-        alloc: Global,
-        key: &ConnKey,
-    ) -> Result<(Parcel, Datagrams), HubNo>
+    pub fn take_from(&mut self, alloc: Global, key: &ConnKey) -> Result<(Parcel, Datagrams), HubNo>
         ensures err { OnErr result (self.new ≡ self.old) }
         ensures place { SamePlace self.old self.new }
         ensures stands { (h : List Entry) → Stands self.old h → Stands self.new (h ++ take_from_entry key.now result ∷ []) }

@@ -1,5 +1,5 @@
 -- The datagrams that a sending end emits are its own.
-use Rattle.std.proofs.Common.{◌≡◌, ℕ, ◌+◌, ◌-◌, ◌<◌, ◌≤◌, ◌^◌, List, [], ◌∷◌, ◌++◌, length, map, Bool, true, false, Option, Some, None, refl, ap, sym, ◌∙◌, subst, arith, inl, inr, length-append, slice_get}
+use Rattle.std.proofs.Common.{◌≡◌, ℕ, ◌+◌, ◌-◌, ◌<◌, ◌≤◌, ◌^◌, List, [], ◌∷◌, ◌++◌, length, map, Bool, true, false, Option, Some, None, refl, sym, subst, arith, inl, inr, length-append, slice_get}
 use Rattle.std.specs.List.{Contains}
 use Rattle.std.proofs.lemmas.Bool.{cases_Bool}
 use Rattle.std.proofs.lemmas.List.Elements.{Contains-append_cases}
@@ -12,7 +12,7 @@ use Rattle.ic_expire.specs.declared.item.Item.{Item}
 use Rattle.ic_law.specs.declared.history.Entry.{Entry}
 use Rattle.ic_law.specs.Packets.{RowPacket, header_for, rows_flags, goes_forth, row_datagram, query_datagram}
 use Rattle.ic_law.specs.Filling.{Sealed, sealed_of}
-use Rattle.ic_law.specs.Emission.{Timer, timing_of, clock_of, row_at, query_due}
+use Rattle.ic_law.specs.Emission.{timing_of, clock_of, row_at, query_due}
 use Rattle.ic_law.proofs.Making.{row_heads, row_reads, query_heads, query_reads}
 use Rattle.ic_law.proofs.Lists.{Contains-none, Contains-one, Contains-map}
 use Rattle.ic_sender.specs.declared.flight.Flight.{Flight}

@@ -1,6 +1,6 @@
 -- What is put, and the answers that come.
-use Rattle.std.proofs.Common.{◌≡◌, ◌≢◌, ℕ, ◌+◌, ◌<◌, ◌≤◌, ◌^◌, List, [], ◌∷◌, ◌++◌, length, map, Bool, true, false, cond, ◌&&◌, ◌||◌, ◌==◌, Some, Result, Ok, Err, refl, ap, sym, ◌∙◌, subst, arith, inl, inr, ◌⊎◌}
-use Rattle.std.specs.Prelude.{IfOk, filter, nat_lt, nat_le}
+use Rattle.std.proofs.Common.{◌≡◌, ℕ, ◌+◌, ◌<◌, ◌≤◌, ◌^◌, List, [], ◌∷◌, ◌++◌, length, map, Bool, true, false, cond, ◌&&◌, ◌||◌, ◌==◌, Some, Result, Ok, Err, refl, ap, sym, ◌∙◌, subst, inl, inr}
+use Rattle.std.specs.Prelude.{IfOk, nat_lt, nat_le}
 use Rattle.std.specs.List.{Contains}
 use Rattle.std.proofs.lemmas.Bool.{cases_Bool, le-leb}
 use Rattle.std.proofs.lemmas.List.Elements.{Contains-append_cases, Contains-append_right}
@@ -19,9 +19,8 @@ use Rattle.ic_expire.proofs.Holding.{rest_holds}
 use Rattle.ic_law.specs.declared.history.HubAsk.{HubAsk}
 use Rattle.ic_law.specs.declared.history.HubAsk.TheVariants.{Put, Finish, Arrive}
 use Rattle.ic_law.specs.declared.history.HubReply.{HubReply}
-use Rattle.ic_law.specs.declared.history.HubReply.TheVariants.{Gave}
 use Rattle.ic_law.specs.declared.history.Entry.{Entry}
-use Rattle.ic_law.specs.Packets.{Packet, RowPacket, packet_of, header_for, goes_forth, row_datagram, answer_datagram}
+use Rattle.ic_law.specs.Packets.{Packet, packet_of, header_for, goes_forth, row_datagram, answer_datagram}
 use Rattle.ic_law.specs.History.{finishes, is_finish, was_given}
 use Rattle.ic_law.specs.Emission.{ticks_by}
 use Rattle.ic_law.proofs.Making.{answer_reads}

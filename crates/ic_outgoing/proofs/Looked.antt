@@ -1,5 +1,5 @@
 -- A look by its steps.
-use Rattle.std.proofs.Common.{◌≡◌, ℕ, List, Option, Some, None, Result, Ok, Err, refl, ap, sym, ◌∙◌, subst}
+use Rattle.std.proofs.Common.{◌≡◌, ℕ, List, Result, Ok, Err, refl, ap, sym, ◌∙◌, subst}
 use Rattle.std.specs.Prelude.{IfOk}
 use Rattle.ic_base.specs.declared.datagram.Datagram.{Datagram}
 use Rattle.ic_sender.specs.declared.send_no.SendNo.{SendNo}
@@ -7,7 +7,7 @@ use Rattle.ic_sender.specs.declared.send_no.SendNo.TheVariants as refused
 use Rattle.ic_sender.specs.Sending.{spent_of, copies}
 use Rattle.ic_sender.specs.Calls.{Tries, Queries}
 use Rattle.ic_outgoing.specs.declared.due.Due.{Due}
-use Rattle.ic_outgoing.specs.Outgoing.{OutgoingState, next_tick, numbers_due, datagrams_due}
+use Rattle.ic_outgoing.specs.Outgoing.{OutgoingState, next_tick, numbers_due}
 use Rattle.ic_outgoing.specs.Looking.{Looks, GivesDue, GivesQuery}
 
 pub looks_ok : (o : OutgoingState) (numbers : List ℕ) (ds : List Datagram) → numbers ≡ numbers_due o → Tries o.sending numbers (Ok ds) → Looks o (Ok (record { numbers = numbers; datagrams = ds }))

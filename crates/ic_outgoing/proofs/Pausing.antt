@@ -1,26 +1,23 @@
 -- A history of ticks alone, for which a connection stands as it begins.
-use Rattle.std.proofs.Common.{◌≡◌, ℕ, zero, suc, ◌+◌, ◌≤◌, min, List, [], ◌∷◌, ◌++◌, true, false, Ok, refl, ap, sym, ◌∙◌, subst, arith}
+use Rattle.std.proofs.Common.{◌≡◌, ℕ, zero, suc, ◌≤◌, List, [], ◌∷◌, ◌++◌, false, Ok, refl, ap, sym, ◌∙◌, subst, arith}
 use Rattle.std.specs.List.{Contains}
 use Rattle.ic_base.specs.declared.keys.ConnKey.{ConnKey}
 use Rattle.ic_base.specs.declared.keys.ConnEnd.{ConnEnd}
 use Rattle.ic_base.specs.declared.settings.Settings.{Settings}
 use Rattle.ic_expire.specs.declared.item.Item.{Item}
 use Rattle.ic_expire.specs.Queue.{Queue}
-use Rattle.ic_law.specs.declared.history.HubAsk.{HubAsk}
 use Rattle.ic_law.specs.declared.history.HubAsk.TheVariants.{Begin, Tick}
 use Rattle.ic_law.specs.declared.history.HubReply.TheVariants.{Ticked}
 use Rattle.ic_law.specs.declared.history.Entry.{Entry}
 use Rattle.ic_law.specs.History.{finished_of}
-use Rattle.ic_law.specs.Points.{Every, IsHere}
-use Rattle.ic_law.specs.Emission.{last_tick, clock_of, ticks_of}
+use Rattle.ic_law.specs.Emission.{last_tick, ticks_of}
 use Rattle.ic_law.proofs.Lists.{Contains-none}
 use Rattle.ic_law.proofs.Readings.{fold_every}
 use Rattle.ic_sender.specs.Sending.{Sending, begun}
 use Rattle.ic_sender.specs.Entries.{IsNothingOf, IsBefore}
 use Rattle.ic_sender.specs.Standing.{Stands as StandsFor, IsUntouched, HoldsNone}
 use Rattle.ic_sender.proofs.Passing.{finished_stays}
-use Rattle.ic_outgoing.specs.Outgoing.{OutgoingState}
-use Rattle.ic_outgoing.specs.Standing.{Stands, StandsFirst, IsSound}
+use Rattle.ic_outgoing.specs.Standing.{StandsFirst, IsSound}
 use Rattle.ic_outgoing.proofs.Steps.{state}
 
 -- a tick at which nothing is emitted

@@ -1,5 +1,5 @@
 -- What waits is on its way, each packet once, so there is room for all that is kept.
-use Rattle.std.proofs.Common.{◌≡◌, ◌≢◌, ℕ, zero, suc, ◌+◌, ◌-◌, ◌<◌, ◌≤◌, List, [], ◌∷◌, length, map, Bool, true, false, cond, refl, ap, sym, ◌∙◌, subst, arith, inl, inr}
+use Rattle.std.proofs.Common.{◌≡◌, ℕ, ◌+◌, ◌-◌, ◌<◌, ◌≤◌, List, [], ◌∷◌, length, map, false, cond, ap, sym, ◌∙◌, subst, arith, inl, inr}
 use Rattle.std.specs.Prelude.{nat_lt}
 use Rattle.std.specs.List.{Contains, All, AllByRecursion, IsDistinct}
 use Rattle.std.proofs.Math.Dec.{eqb}
@@ -10,12 +10,12 @@ use Rattle.std.proofs.lemmas.Map.Steps.{length-le_from_distinct_below}
 use Rattle.std.proofs.lemmas.Map.Views.{Contains-from_any}
 use Rattle.ic_expire.specs.declared.item.Item.{Item}
 use Rattle.ic_expire.specs.declared.dues.Due.{Due}
-use Rattle.ic_expire.specs.Items.{AreOthers, packet_of}
-use Rattle.ic_expire.specs.Queue.{Queue, IsQueue, EachLater, IsHeld}
+use Rattle.ic_expire.specs.Items.{AreOthers}
+use Rattle.ic_expire.specs.Queue.{Queue, IsQueue, EachLater}
 use Rattle.ic_law.specs.Filling.{sealed_of}
 use Rattle.ic_law.specs.History.{number_of}
-use Rattle.ic_law.specs.Emission.{Timer, timing_of, clock_of, numbers_behind}
-use Rattle.ic_law.proofs.Lists.{Contains-none, Contains-head, Contains-tail, Contains-map, map-Contains}
+use Rattle.ic_law.specs.Emission.{timing_of, clock_of}
+use Rattle.ic_law.proofs.Lists.{Contains-head, Contains-tail, Contains-map, map-Contains}
 use Rattle.ic_sender.specs.declared.flight.Flight.{Flight}
 use Rattle.ic_sender.specs.Sending.{Sending}
 use Rattle.ic_sender.specs.Calls.{IsNow, WaitsAlone, LeavesRoom, unsent, unsealed}

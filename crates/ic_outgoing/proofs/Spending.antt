@@ -1,9 +1,8 @@
 -- What a look at the next tick tells of the histories for which a connection stands.
-use Rattle.std.proofs.Common.{◌≡◌, ℕ, ◌+◌, ◌-◌, ◌<◌, ◌≤◌, min, List, [], ◌∷◌, ◌++◌, length, map, Bool, true, false, cond, ◌&&◌, ◌||◌, ◌==◌, Option, Some, None, Result, Ok, Err, refl, ap, sym, ◌∙◌, subst, arith, inl, inr}
-use Rattle.std.specs.Prelude.{filter, find, nat_le, IfOk}
+use Rattle.std.proofs.Common.{◌≡◌, ℕ, ◌+◌, ◌-◌, List, [], ◌∷◌, map, Bool, true, false, cond, ◌&&◌, ◌||◌, ◌==◌, Option, Some, None, Result, refl, ap, sym, ◌∙◌, subst, arith, inl, inr}
+use Rattle.std.specs.Prelude.{filter, find, IfOk}
 use Rattle.std.specs.List.{Contains, list_any}
 use Rattle.std.proofs.lemmas.Bool.{cases_Bool, eqb-true}
-use Rattle.ic_base.specs.declared.keys.ConnKey.{ConnKey}
 use Rattle.ic_base.specs.declared.settings.Settings.{Settings}
 use Rattle.ic_base.specs.declared.datagram.Datagram.{Datagram}
 use Rattle.ic_expire.specs.declared.item.Item.{Item}
@@ -12,14 +11,13 @@ use Rattle.ic_law.specs.declared.history.Entry.{Entry}
 use Rattle.ic_law.specs.Filling.{sealed_of}
 use Rattle.ic_law.specs.History.{sent_upto}
 use Rattle.ic_law.specs.Numbers.{IsIncreasingFrom}
-use Rattle.ic_law.specs.Emission.{Timer, Asked, Timing, timing_of, clock_of, ticks_of, next_clock, is_due, due_numbers, has_no_try, spent_timers, spent_query, packets_spent, query_spent, last_tick, query_due}
-use Rattle.ic_law.proofs.Lists.{Contains-none, Contains-head, Contains-tail, head_or_tail}
+use Rattle.ic_law.specs.Emission.{Timer, Asked, timing_of, clock_of, next_clock, is_due, due_numbers, has_no_try, spent_timers, spent_query}
+use Rattle.ic_law.proofs.Lists.{Contains-head, Contains-tail}
 use Rattle.ic_sender.specs.declared.flight.Flight.{Flight}
 use Rattle.ic_sender.specs.declared.send_no.SendNo.{SendNo}
-use Rattle.ic_sender.specs.declared.send_no.SendNo.TheVariants as refused
-use Rattle.ic_sender.specs.Sending.{Sending, copies}
+use Rattle.ic_sender.specs.Sending.{Sending}
 use Rattle.ic_sender.specs.Sending.{has_no_try as has_none_left}
-use Rattle.ic_sender.specs.Calls.{Queries, is_unanswered, queries_next, queries_when}
+use Rattle.ic_sender.specs.Calls.{Queries, is_unanswered}
 use Rattle.ic_sender.specs.Standing.{Waits, Mirrors, Stands as StandsFor}
 use Rattle.ic_sender.proofs.Lists.{same_number}
 use Rattle.ic_sender.proofs.Dues.{behind_increasing, alike_seqs, alike_timer, seqs_increase, find_itself}
@@ -27,7 +25,7 @@ use Rattle.ic_sender.proofs.Dues.{numbers_due as numbers_are}
 use Rattle.ic_sender.proofs.Knowing.{sent_is}
 use Rattle.ic_sender.proofs.Ticking.{not_any}
 use Rattle.ic_outgoing.specs.declared.due.Due.{Due}
-use Rattle.ic_outgoing.specs.Outgoing.{OutgoingState, next_tick, numbers_due, first_spent, is_query_spent, datagrams_due, queries_due}
+use Rattle.ic_outgoing.specs.Outgoing.{next_tick, numbers_due, first_spent, is_query_spent}
 use Rattle.ic_outgoing.specs.Looking.{Looks}
 use Rattle.ic_outgoing.specs.Emitted.{AreOutgoing}
 use Rattle.ic_outgoing.specs.Standing.{Stands, KeepsPackets, GivesPacketUp, KeepsQuery, GivesQueryUp, Tells, IsSound}

@@ -1,7 +1,7 @@
 -- What a tick makes of a connection and its queue.
-use Rattle.std.proofs.Common.{◌≡◌, ◌≢◌, ℕ, ◌+◌, ◌<◌, ◌≤◌, min, List, [], ◌∷◌, ◌++◌, length, map, Bool, true, false, not, cond, Ok, None, refl, ap, sym, ◌∙◌, subst, arith, inl, inr}
+use Rattle.std.proofs.Common.{◌≡◌, ℕ, ◌+◌, ◌<◌, ◌≤◌, List, [], ◌∷◌, ◌++◌, length, map, Bool, true, false, not, Ok, refl, ap, sym, ◌∙◌, subst, arith, inl, inr}
 use Rattle.std.specs.Prelude.{filter, ◌↔◌}
-use Rattle.std.specs.List.{Contains, All}
+use Rattle.std.specs.List.{Contains}
 use Rattle.std.specs.declared.cmp.Ordering.{Ordering}
 use Rattle.std.specs.declared.cmp.Ordering.TheVariants.{Less, Equal, Greater}
 use Rattle.std.specs.Ordering.{nat_cmp, ordering_then, MatchOrdering}
@@ -9,12 +9,11 @@ use Rattle.std.proofs.lemmas.Cmp.{ranked}
 use Rattle.std.proofs.lemmas.Bool.{cases_Bool, leb-true}
 use Rattle.std.proofs.lemmas.List.Elements.{All-contains}
 use Rattle.std.proofs.lemmas.List.Filters.{length-filter_both}
-use Rattle.ic_base.specs.declared.datagram.Datagram.{Datagram}
 use Rattle.ic_base.specs.declared.keys.ConnEnd.{ConnEnd}
 use Rattle.ic_base.specs.declared.settings.Settings.{Settings}
 use Rattle.ic_expire.specs.declared.item.Item.{Item}
 use Rattle.ic_expire.specs.declared.dues.Due.{Due}
-use Rattle.ic_expire.specs.Items.{item_cmp, IsBefore, packet_of, is_due}
+use Rattle.ic_expire.specs.Items.{IsBefore, packet_of, is_due}
 use Rattle.ic_expire.specs.Queue.{Queue, IsQueue, EachLater, IsHeld, dues_of, without}
 use Rattle.ic_expire.proofs.Lists.{later_filter}
 use Rattle.ic_expire.proofs.Holding.{rest_holds, due_takes}
@@ -24,11 +23,11 @@ use Rattle.ic_law.specs.declared.history.HubReply.TheVariants.{Ticked}
 use Rattle.ic_law.specs.declared.history.Entry.{Entry}
 use Rattle.ic_law.specs.History.{finishes, is_finish, finished_of}
 use Rattle.ic_law.specs.Numbers.{IsIncreasingFrom}
-use Rattle.ic_law.specs.Emission.{last_tick, clock_of, ticks_of, ticks_by, query_due}
+use Rattle.ic_law.specs.Emission.{clock_of, ticks_by, query_due}
 use Rattle.ic_law.proofs.Lists.{Contains-none, Contains-head, Contains-tail, Contains-map, map-Contains}
 use Rattle.ic_law.proofs.Timings.{ticks_of-push}
-use Rattle.ic_sender.specs.Sending.{Sending, spent_of, waits_longer}
-use Rattle.ic_sender.specs.Entries.{AreAmong, IsTicking, Ticks, tried_when, queried_when}
+use Rattle.ic_sender.specs.Sending.{Sending, waits_longer}
+use Rattle.ic_sender.specs.Entries.{IsTicking, Ticks, tried_when, queried_when}
 use Rattle.ic_sender.proofs.Lists.{in_filter, length-map}
 use Rattle.ic_sender.proofs.Dues.{longer_is}
 use Rattle.ic_sender.proofs.Passing.{finished_stays}

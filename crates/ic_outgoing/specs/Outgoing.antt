@@ -1,18 +1,16 @@
 -- A sending connection with what waits for its answers, and the tick at which it is.
-use Rattle.std.specs.Prelude.{◌≡◌, ℕ, ◌+◌, ◌^◌, ◌<◌, ◌≤◌, min, List, [], map, Bool, true, false, Option, Some, None, Result, Ok, Err}
+use Rattle.std.specs.Prelude.{◌≡◌, ℕ, ◌+◌, min, List, [], map, Bool, false, Option, None, Result, Ok}
 use Rattle.ic_base.specs.declared.keys.ConnEnd.{ConnEnd}
 use Rattle.ic_base.specs.declared.settings.Settings.{Settings}
 use Rattle.ic_base.specs.declared.datagram.Datagram.{Datagram}
 use Rattle.ic_header.specs.declared.flags.Flags.{Flags}
 use Rattle.ic_header.specs.declared.flags.Flags.TheVariants.{Rows, LastRows, Query, Ack, Stop, Nak, Disorder, Duplicate}
-use Rattle.ic_header.specs.declared.header.Header.{Header}
 use Rattle.ic_expire.specs.declared.item.Item.{Item}
 use Rattle.ic_expire.specs.declared.dues.Due.{Due}
 use Rattle.ic_expire.specs.Items.{is_due, is_upto}
 use Rattle.ic_expire.specs.Queue.{Queue, dues_of, without}
 use Rattle.ic_law.specs.Emission.{last_tick, query_due}
 use Rattle.ic_sender.specs.declared.send_no.SendNo.{SendNo}
-use Rattle.ic_sender.specs.declared.send_no.SendNo.TheVariants as refused
 use Rattle.ic_sender.specs.Sending.{Sending, begun, halting, spent_of, waits_longer, copies}
 use Rattle.ic_sender.specs.Calls.{Hears, acknowledging, repeating, missing_of, unknown, IsStrayAck, IsStrayDuplicate, IsStrayDisorder, IsStrayNak, is_unanswered, queries_next}
 use Rattle.ic_sender.specs.Entries.{tried_when, queried_when}

@@ -1,17 +1,17 @@
 -- The histories that a sending connection with its clock stands for.
-use Rattle.std.specs.Prelude.{◌≡◌, ℕ, ◌+◌, ◌<◌, ◌≤◌, List, [], ◌∷◌, ◌++◌, true, false, Result, Ok, Err, Contains}
+use Rattle.std.specs.Prelude.{◌≡◌, ℕ, ◌≤◌, List, [], ◌∷◌, ◌++◌, true, false, Result, Ok, Err, Contains}
 use Rattle.ic_base.specs.declared.keys.ConnKey.{ConnKey}
 use Rattle.ic_base.specs.declared.keys.ConnEnd.{ConnEnd}
 use Rattle.ic_expire.specs.declared.item.Item.{Item}
 use Rattle.ic_expire.specs.Queue.{Queue}
 use Rattle.ic_law.specs.declared.history.Entry.{Entry}
-use Rattle.ic_law.specs.History.{finished_of, sent_upto}
+use Rattle.ic_law.specs.History.{finished_of}
 use Rattle.ic_law.specs.Emission.{last_tick, clock_of, timing_of, next_clock, spent_timers, spent_query, packets_spent, query_spent}
 use Rattle.ic_sender.specs.declared.send_no.SendNo.{SendNo}
 use Rattle.ic_sender.specs.declared.send_no.SendNo.TheVariants.{Full, Stopped, TooLong, Spent, Stray, Memory}
 use Rattle.ic_sender.specs.Sending.{Sending}
 use Rattle.ic_sender.specs.Standing.{Stands as StandsFor, IsUntouched}
-use Rattle.ic_outgoing.specs.Outgoing.{OutgoingState, begun_at}
+use Rattle.ic_outgoing.specs.Outgoing.{OutgoingState}
 
 -- It is at the tick of a history, finished where the history says so, and its connection, with what waits, stands for it.
 pub record Stands (o : OutgoingState) (h : List Entry) : Type 0 where

@@ -11,7 +11,9 @@ use std::alloc::Global;
 use std::test::Fail;
 
 /// Motion 1 of query 1, from segment 0 to the dispatcher, with packets of 128 bytes and one resending.
-fn gather(alloc: Global) -> Result<Outgoing, Fail>
+fn gather(alloc: Global, receive_depth: u32) -> Result<Outgoing, Fail>
+    requires least { 1 ≤ receive_depth }
+    requires most { receive_depth ≤ 256 }
     ensures { IfOk result (λ o. o.sending.settings.packet ≡ 128) }
 {
     let from = SegId::new(0).ok_or("no segment")?;
@@ -30,7 +32,7 @@ fn gather(alloc: Global) -> Result<Outgoing, Fail>
     };
     let settings = Settings {
         packet: 128,
-        receive_depth: 4,
+        receive_depth,
         send_depth: 2,
         retries: 1,
         flow: Flow::Capacity,
@@ -108,9 +110,16 @@ fn begins(datagrams: &Datagrams, count: usize, flags: Flags, seq: u32) -> bool {
     }
 }
 
+/// Whether both are one datagram, the same.
+fn same(some: &Datagrams, others: &Datagrams) -> bool {
+    some.as_slice().len() == 1
+        && others.as_slice().len() == 1
+        && some.as_slice()[0].bytes.as_slice() == others.as_slice()[0].bytes.as_slice()
+}
+
 #[test]
 fn a_full_packet_goes_out_and_an_ack_frees_it(rt: HostRuntime) -> Result<(), Fail> {
-    let mut out = gather(rt.alloc())?;
+    let mut out = gather(rt.alloc(), 4)?;
     let none = put(&mut out, rt.alloc(), &[1; 60])?;
     let first = put(&mut out, rt.alloc(), &[2; 60])?;
     let last = finish(&mut out, rt.alloc())?;
@@ -119,5 +128,71 @@ fn a_full_packet_goes_out_and_an_ack_frees_it(rt: HostRuntime) -> Result<(), Fai
     assert!(rt; begins(&last, 1, Flags::LastRows, 2));
     let _none = given(out.hear(rt.alloc(), &answer(Flags::Ack, 2, 2), &[]))?;
     assert!(rt; out.is_over());
+    Ok(())
+}
+
+#[test]
+fn a_packet_without_an_answer_goes_out_again_at_tick_4(rt: HostRuntime) -> Result<(), Fail> {
+    let mut out = gather(rt.alloc(), 4)?;
+    let first = finish(&mut out, rt.alloc())?;
+    for _ in 0..3 {
+        let (none, _query) = tick(&mut out, rt.alloc())?;
+        assert!(rt; none.as_slice().is_empty());
+    }
+    let (again, _query) = tick(&mut out, rt.alloc())?;
+    assert!(rt; same(&again, &first));
+    assert_eq!(rt; out.resent(), 1);
+    Ok(())
+}
+
+#[test]
+fn a_packet_is_given_up_8_ticks_after_its_last_resending(rt: HostRuntime) -> Result<(), Fail> {
+    let mut out = gather(rt.alloc(), 4)?;
+    let _first = finish(&mut out, rt.alloc())?;
+    for _ in 0..11 {
+        let _sent = tick(&mut out, rt.alloc())?;
+    }
+    let spent = match out.due(rt.alloc()) {
+        Err(SendNo::Spent { key: _, seq, tries }) => (seq, tries),
+        _ => (0, 0),
+    };
+    assert_eq!(rt; spent, (1, 1));
+    Ok(())
+}
+
+#[test]
+fn a_receiver_without_room_is_asked_at_a_tick(rt: HostRuntime) -> Result<(), Fail> {
+    let mut out = gather(rt.alloc(), 1)?;
+    let _none = put(&mut out, rt.alloc(), &[1; 60])?;
+    let _first = put(&mut out, rt.alloc(), &[2; 60])?;
+    let _none = finish(&mut out, rt.alloc())?;
+    let _none = given(out.hear(rt.alloc(), &answer(Flags::Ack, 1, 0), &[]))?;
+    let _nothing = tick(&mut out, rt.alloc())?;
+    let (_none, query) = tick(&mut out, rt.alloc())?;
+    assert!(rt; begins(&query, 1, Flags::Query, 1));
+    Ok(())
+}
+
+#[test]
+fn what_a_report_lists_goes_out_again(rt: HostRuntime) -> Result<(), Fail> {
+    let mut out = gather(rt.alloc(), 4)?;
+    let _none = put(&mut out, rt.alloc(), &[1; 60])?;
+    let first = put(&mut out, rt.alloc(), &[2; 60])?;
+    let _last = finish(&mut out, rt.alloc())?;
+    let again = given(out.hear(rt.alloc(), &answer(Flags::Disorder, 2, 2), &[0, 0, 0, 1]))?;
+    assert!(rt; same(&again, &first));
+    Ok(())
+}
+
+#[test]
+fn a_stop_leaves_nothing_to_emit(rt: HostRuntime) -> Result<(), Fail> {
+    let mut out = gather(rt.alloc(), 4)?;
+    let _first = finish(&mut out, rt.alloc())?;
+    let _none = given(out.hear(rt.alloc(), &answer(Flags::Stop, 0, 0), &[]))?;
+    assert!(rt; out.is_stopped());
+    for _ in 0..5 {
+        let (none, _query) = tick(&mut out, rt.alloc())?;
+        assert!(rt; none.as_slice().is_empty());
+    }
     Ok(())
 }

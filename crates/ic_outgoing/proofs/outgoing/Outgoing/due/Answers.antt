@@ -1,4 +1,4 @@
-use Rattle.std.proofs.Common.{◌≡◌, ap, sym, ◌∙◌, subst}
+use Rattle.std.proofs.Common.{sym, subst}
 use Rattle.std.specs.Prelude.{IfOk}
 use Rattle.ic_outgoing.specs.declared.due.Due.{Due}
 use Rattle.ic_outgoing.specs.Outgoing.{OutgoingState}

@@ -1,10 +1,10 @@
-use Rattle.std.proofs.Common.{◌≡◌, ◌++◌, ◌∷◌, [], List, ap, sym, ◌∙◌, refl, subst, false}
+use Rattle.std.proofs.Common.{◌++◌, ◌∷◌, [], List, ap, ◌∙◌, subst}
 use Rattle.std.specs.Prelude.{IfOk}
 use Rattle.ic_law.specs.declared.history.Entry.{Entry}
 use Rattle.ic_sender.specs.Entries.{IsFinishing}
 use Rattle.ic_outgoing.specs.Emitted.{AreOutgoing}
 use Rattle.ic_outgoing.specs.Outgoing.{OutgoingState}
-use Rattle.ic_outgoing.specs.Standing.{Stands, IsSound}
+use Rattle.ic_outgoing.specs.Standing.{Stands}
 use Rattle.ic_outgoing.proofs.Room.{waits_alone, leaves_more_room}
 use Rattle.ic_outgoing.proofs.Steps.{state}
 use Rattle.ic_outgoing.proofs.Going.{finish_stands, finish_sound, finish_formed}

@@ -1,11 +1,11 @@
-use Rattle.std.proofs.Common.{◌≡◌, ◌<◌, ◌+◌, ◌^◌, ◌++◌, ◌∷◌, [], List, ℕ, length, ap, sym, ◌∙◌, refl, subst, false}
+use Rattle.std.proofs.Common.{◌++◌, ◌∷◌, [], List, subst}
 use Rattle.std.specs.Prelude.{IfOk}
 use Rattle.ic_expire.specs.Queue.{Queue}
 use Rattle.ic_law.specs.declared.history.Entry.{Entry}
 use Rattle.ic_sender.specs.Entries.{IsHearing}
 use Rattle.ic_outgoing.specs.Emitted.{AreOutgoing}
 use Rattle.ic_outgoing.specs.Outgoing.{OutgoingState, queue_of, HearsBy}
-use Rattle.ic_outgoing.specs.Standing.{Stands, IsSound}
+use Rattle.ic_outgoing.specs.Standing.{Stands}
 use Rattle.ic_outgoing.proofs.Room.{waits_alone, leaves_room}
 use Rattle.ic_outgoing.proofs.Steps.{state, queue_is}
 use Rattle.ic_outgoing.proofs.Going.{hear_stands, hear_sound, hear_formed}

@@ -1,4 +1,4 @@
-use Rattle.std.proofs.Common.{◌≡◌, List, subst}
+use Rattle.std.proofs.Common.{List, subst}
 use Rattle.std.specs.Prelude.{IsTrue, ◌↔◌}
 use Rattle.ic_law.specs.declared.history.Entry.{Entry}
 use Rattle.ic_sender.specs.Standing.{IsOverIn}

@@ -1,12 +1,9 @@
-use Rattle.std.proofs.Common.{◌≡◌, ℕ, List, Result, Ok, Err, ap, sym, ◌∙◌, subst, map}
+use Rattle.std.proofs.Common.{◌≡◌, ℕ, List, Ok, Err, ap, sym, ◌∙◌, subst, map}
 use Rattle.std.proofs.lemmas.Result.{err_from_is_err_and}
-use Rattle.ic_base.specs.declared.datagram.Datagram.{Datagram}
 use Rattle.ic_expire.specs.declared.dues.Due.{Due as DuePacket}
 use Rattle.ic_expire.specs.Queue.{dues_of}
-use Rattle.ic_sender.specs.declared.send_no.SendNo.{SendNo}
 use Rattle.ic_sender.specs.Calls.{Tries}
-use Rattle.ic_outgoing.specs.declared.due.Due.{Due}
-use Rattle.ic_outgoing.specs.Outgoing.{OutgoingState, next_tick, numbers_due}
+use Rattle.ic_outgoing.specs.Outgoing.{OutgoingState, numbers_due}
 use Rattle.ic_outgoing.specs.Looking.{Looks}
 use Rattle.ic_outgoing.proofs.Steps.{state}
 use Rattle.ic_outgoing.proofs.Looked.{looks_ok, looks_err}

@@ -1,9 +1,6 @@
-use Rattle.std.proofs.Common.{◌≡◌, List, [], ap, sym, ◌∙◌, refl}
-use Rattle.ic_expire.specs.declared.item.Item.{Item}
+use Rattle.std.proofs.Common.{◌≡◌, [], ap, ◌∙◌}
 use Rattle.ic_expire.specs.Items.{is_due}
 use Rattle.ic_expire.specs.Queue.{Queue, without}
-use Rattle.ic_outgoing.specs.Standing.{StandsFirst, IsSound}
-use Rattle.ic_outgoing.proofs.Steps.{state}
 use Rattle.ic_outgoing.proofs.Pausing.{new_stands, new_sound}
 use Rattle.ic_outgoing.proofs.outgoing.Outgoing.new.Goals as goal
 

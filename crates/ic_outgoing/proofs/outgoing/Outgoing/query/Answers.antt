@@ -1,4 +1,4 @@
-use Rattle.std.proofs.Common.{◌≡◌, ℕ, ap, sym, ◌∙◌, subst}
+use Rattle.std.proofs.Common.{ℕ, subst}
 use Rattle.std.specs.Prelude.{IfOk}
 use Rattle.ic_sender.specs.Calls.{Queries}
 use Rattle.ic_outgoing.specs.Outgoing.{OutgoingState, next_tick}

@@ -1,11 +1,11 @@
-use Rattle.std.proofs.Common.{◌≡◌, ◌++◌, ◌∷◌, [], ◌+◌, ◌≤◌, ℕ, List, length, ap, sym, ◌∙◌, refl, subst}
+use Rattle.std.proofs.Common.{◌≡◌, ◌++◌, ◌∷◌, [], ◌+◌, ◌≤◌, ℕ, List, length, ap, sym, ◌∙◌, subst}
 use Rattle.std.specs.List.{Contains}
 use Rattle.ic_expire.specs.Queue.{Queue, IsHeld}
 use Rattle.ic_law.specs.declared.history.Entry.{Entry}
 use Rattle.ic_law.specs.Numbers.{IsIncreasingFrom}
 use Rattle.ic_sender.specs.Sending.{Sending}
 use Rattle.ic_sender.specs.Entries.{IsTicking}
-use Rattle.ic_outgoing.specs.Outgoing.{OutgoingState, MayTick, next_tick, numbers_due, datagrams_due, queries_due, ticking}
+use Rattle.ic_outgoing.specs.Outgoing.{OutgoingState, MayTick, next_tick, datagrams_due, queries_due, ticking}
 use Rattle.ic_outgoing.specs.Standing.{Stands, IsSound}
 use Rattle.ic_outgoing.proofs.Steps.{state}
 use Rattle.ic_outgoing.proofs.Ticking.{due_increase, due_taken, due_room, tick_stands, tick_sound, passed, ticked_as}

@@ -1,0 +1,13 @@
+use Rattle.std.proofs.Common.{refl, arith}
+use Rattle.std.proofs.lemmas.Option.{slice_get_read}
+use Rattle.ic_outgoing.specs.Standing.{GivesQueryUp}
+use Rattle.ic_hub.specs.Ticking.{MayAsk, RefusedFor, RefusedFirst}
+use Rattle.ic_hub.proofs.Ticking.{refused_first, handed_on}
+use Rattle.ic_hub.proofs.tick.queries.Goals as goal
+
+pub returns-in_err-query_of-clause-err : goal.returns-in_err-query_of-clause-err
+returns-in_err-query_of-clause-err c =
+    let xs = c.args.senders.now in
+    let at = slice_get_read xs _ c.loop-sender.sender-index c.sender-item.result refl (omega arith) c.sender-item.is in
+    handed_on (RefusedFirst MayAsk (RefusedFor GivesQueryUp) xs) _ c.in_err-query_of.field-0.0 c.from_residual.ensures.1
+    (refused_first MayAsk (RefusedFor GivesQueryUp) xs c.loop-sender.sender-index c.sender-item.result c.in_err-query_of.field-0.0 at c.loop-sender.invariant.may c.in_err-query_of.ensures.err)

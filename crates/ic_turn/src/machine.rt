@@ -1,0 +1,45 @@
+// What serves asks.
+ghost use Rattle.std.specs.Prelude.{◌≡◌, List, [], ◌∷◌};
+ghost use Rattle.ic_turn.specs.Entries.{Entry, StandsWith};
+
+use std::alloc::Global;
+
+/// What serves asks one at a time, and answers each at once.
+///
+/// A machine keeps no list of what it was asked. Contracts speak of such lists all the same: it *stands* for a list of
+/// entries, each an ask with its reply, where its state is one that they can have led to. Whoever drives it shows that
+/// it stands for no entries at the beginning, and has the list of all entries at the end, which is then lawful.
+pub trait Machine {
+    type Ask;
+
+    /// Where an ask can find no memory, a variant says so.
+    type Reply;
+
+    /// Plain data that no `act` changes.
+    ghost Kept: { Type 0 };
+
+    ghost kept: { Self → Kept };
+
+    /// The machine as plain data, as it is now.
+    ghost State: { Type 0 };
+
+    ghost state: { Self → State };
+
+    /// A machine that keeps this may answer this ask so, whatever came before.
+    ghost answers: { Kept → Self.Ask → Self.Reply → Type 0 };
+
+    /// The entries of a machine that keeps this may be these.
+    ghost lawful: { Kept → List (Entry Self.Ask Self.Reply) → Type 0 };
+
+    /// These entries can have led a machine that keeps this to this state.
+    ghost stands: { Kept → State → List (Entry Self.Ask Self.Reply) → Type 0 };
+
+    /// Answers an ask. What memory it takes is of `alloc`.
+    fn act(&mut self, alloc: Global, ask: Self::Ask) -> Self::Reply
+        ensures kept { kept self.new ≡ kept self.old }
+        ensures answers { answers (kept self.old) ask result }
+        ensures stands { StandsWith (stands (kept self.old) (state self.old)) (stands (kept self.new) (state self.new)) (record { ask = ask; reply = result } ∷ []) };
+
+    /// What a machine stands for is lawful.
+    ghost stands_lawful: { (k : Kept) (s : State) (entries : List (Entry Self.Ask Self.Reply)) → stands k s entries → lawful k entries };
+}
