@@ -17,3 +17,4 @@ pub mod Ticking
 pub mod TickingEmits
 pub mod TickingStands
 pub mod TickingRefused
+mod Ticking
