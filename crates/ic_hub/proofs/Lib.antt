@@ -11,6 +11,8 @@ pub mod Choosing
 pub mod TakingAny
 pub mod ComingSteps
 pub mod ComingSame
+pub mod ComingStands
+pub mod ComingQuery
 pub mod Ticking
 pub mod TickingEmits
 pub mod TickingStands
