@@ -20,7 +20,7 @@ use Rattle.ic_ends.proofs.Telling.{rows_not, queries_not_of, flat_none}
 use Rattle.ic_hub.specs.Hubbing.{Hubbing, Living, place_in}
 use Rattle.ic_hub.specs.Standing.{Stands}
 use Rattle.ic_hub.specs.Ticking.{MayResend, MayAsk, MayTick, emission_of}
-use Rattle.ic_hub.proofs.Places.{Shaped, all_at, at_contains, contains_at, end_of_sender, one_sender}
+use Rattle.ic_hub.proofs.Places.{Shaped, all_at, contains_at, end_of_sender, one_sender}
 use Rattle.ic_hub.proofs.Ticking.{some_one}
 use Rattle.ic_hub.proofs.Moving.{has_end}
 use Rattle.ic_hub.proofs.Putting.{packet_of_it, ours_of, are_formed}
@@ -82,9 +82,9 @@ reads_mine s q i l o f shaped all at here one =
     ∙ flat_nothing queries_due f m.senders (λ j p pj. none_of_other o.sending.end.key f p (queries_due p) one (queries_formed s r j m p all there pj) (other j p pj)))
     ∙ flat_map-append f (flat_map datagrams_due l.senders) (flat_map queries_due l.senders)
     ∙ ap (λ x. x ++ flat_map f (flat_map queries_due l.senders))
-      (flat_one datagrams_due f l.senders i o here (λ j p pj apart. none_of_other o.sending.end.key f p (datagrams_due p) one (packets_formed s q j l p all at pj) (λ same. apart (one_sender s q q j i l l p o shaped at at pj here same).place)))
+    (flat_one datagrams_due f l.senders i o here (λ j p pj apart. none_of_other o.sending.end.key f p (datagrams_due p) one (packets_formed s q j l p all at pj) (λ same. apart (one_sender s q q j i l l p o shaped at at pj here same).place)))
     ∙ ap (λ x. flat_map f (datagrams_due o) ++ x)
-      (flat_one queries_due f l.senders i o here (λ j p pj apart. none_of_other o.sending.end.key f p (queries_due p) one (queries_formed s q j l p all at pj) (λ same. apart (one_sender s q q j i l l p o shaped at at pj here same).place)))
+    (flat_one queries_due f l.senders i o here (λ j p pj apart. none_of_other o.sending.end.key f p (queries_due p) one (queries_formed s q j l p all at pj) (λ same. apart (one_sender s q q j i l l p o shaped at at pj here same).place)))
     ∙ sym (flat_map-append f (datagrams_due o) (queries_due o))
 
 -- ---- one datagram
@@ -106,13 +106,13 @@ emitted_by s d c =
     let q = contains_at s.live l (subst (λ xs. Contains xs l) (sym w.3) (Contains-middle w.0 l w.2)) in
     elim (Contains-append_cases (flat_map datagrams_due l.senders) (flat_map queries_due l.senders) d w.4) [
       | inl packets ↦ (
-        let v = Contains-flat_map datagrams_due l.senders d packets in
-        let i = contains_at l.senders v.1 (subst (λ xs. Contains xs v.1) (sym v.3) (Contains-middle v.0 v.1 v.2)) in
-        record { query = q.0; place = i.0; living = l; sender = v.1; live = q.1; here = i.1; has = Contains-append_left (datagrams_due v.1) (queries_due v.1) d v.4 })
+          let v = Contains-flat_map datagrams_due l.senders d packets in
+          let i = contains_at l.senders v.1 (subst (λ xs. Contains xs v.1) (sym v.3) (Contains-middle v.0 v.1 v.2)) in
+          record { query = q.0; place = i.0; living = l; sender = v.1; live = q.1; here = i.1; has = Contains-append_left (datagrams_due v.1) (queries_due v.1) d v.4 })
       | inr asks ↦ (
-        let v = Contains-flat_map queries_due l.senders d asks in
-        let i = contains_at l.senders v.1 (subst (λ xs. Contains xs v.1) (sym v.3) (Contains-middle v.0 v.1 v.2)) in
-        record { query = q.0; place = i.0; living = l; sender = v.1; live = q.1; here = i.1; has = Contains-append_right (datagrams_due v.1) (queries_due v.1) d v.4 })
+          let v = Contains-flat_map queries_due l.senders d asks in
+          let i = contains_at l.senders v.1 (subst (λ xs. Contains xs v.1) (sym v.3) (Contains-middle v.0 v.1 v.2)) in
+          record { query = q.0; place = i.0; living = l; sender = v.1; live = q.1; here = i.1; has = Contains-append_right (datagrams_due v.1) (queries_due v.1) d v.4 })
     ]
 
 -- and is of its form

@@ -1,31 +1,29 @@
 -- A hub stands as it is with a tick that is refused.
-use Rattle.std.proofs.Common.{◌≡◌, ◌<◌, ℕ, zero, suc, List, [], ◌∷◌, ◌++◌, map, filter, cond, Bool, true, false, ◌&&◌, Some, None, Err, refl, ap, sym, ◌∙◌, subst, arith, inl, inr, ◌⊎◌, slice_get}
+use Rattle.std.proofs.Common.{◌≡◌, ◌<◌, ℕ, zero, suc, List, [], ◌∷◌, ◌++◌, map, filter, cond, Bool, true, false, ◌&&◌, Some, None, Err, refl, ap, sym, ◌∙◌, subst, arith, inl, inr, slice_get}
 use Rattle.std.specs.List.{AllByRecursion, Contains}
 use Rattle.ic_base.specs.declared.keys.ConnKey.{ConnKey}
 use Rattle.ic_base.specs.declared.keys.ConnEnd.{ConnEnd}
 use Rattle.ic_base.specs.declared.settings.Settings.{Settings}
-use Rattle.ic_base.specs.declared.datagram.Datagram.{Datagram}
 use Rattle.ic_conntab.specs.Table.{Table}
 use Rattle.ic_law.specs.declared.history.HubAsk.TheVariants.{Begin, Clear, Tick}
 use Rattle.ic_law.specs.declared.history.Entry.{Entry}
 use Rattle.ic_law.specs.declared.history.TickNo.{TickNo}
 use Rattle.ic_law.specs.declared.history.TickNo.TheVariants as no
-use Rattle.ic_law.specs.Points.{IsLive}
 use Rattle.ic_law.specs.Emission.{packets_spent, query_spent, spent_of, spent_timers, spent_query, next_clock, timing_of, IsFirstSpent}
 use Rattle.ic_law.specs.History.{sent_upto}
 use Rattle.ic_law.proofs.Lists.{Contains-none, head_or_tail}
 use Rattle.ic_places.specs.Ends.{sending_ends}
 use Rattle.ic_sender.specs.Sending.{Sending}
 use Rattle.ic_outgoing.specs.Outgoing.{OutgoingState}
-use Rattle.ic_outgoing.specs.Standing.{Stands as SenderStands, KeepsPackets, GivesPacketUp, KeepsQuery, GivesQueryUp}
+use Rattle.ic_outgoing.specs.Standing.{Stands as SenderStands, GivesPacketUp, GivesQueryUp}
 use Rattle.ic_ends.specs.Clocks.{NoPacketSpent, NoQuerySpent, SpendsFirst}
 use Rattle.ic_ends.specs.Entries.{RefusedTick}
 use Rattle.ic_ends.proofs.Spent.{nothing_spent, packet_spent_first, query_spent_first}
-use Rattle.ic_hub.specs.Hubbing.{Hubbing, Living, IsLiving, IsHub, place_in}
+use Rattle.ic_hub.specs.Hubbing.{Hubbing, Living, IsLiving, IsHub}
 use Rattle.ic_hub.specs.Entries.{tick_entry}
 use Rattle.ic_hub.specs.Standing.{IsAmong, Stands}
 use Rattle.ic_hub.specs.Ticking.{MayResend, MayAsk, MayTick, RefusedFor, GivenUp, Roomless, RefusedFirst, RefusedIn, OfPacket, OfQuery, OfNone}
-use Rattle.ic_hub.proofs.Places.{Shaped, SenderOf, sender_of, end_of_sender, all_at, at_map, map_at, apart_or_same}
+use Rattle.ic_hub.proofs.Places.{Shaped, sender_of, end_of_sender, all_at, at_map, map_at, apart_or_same}
 use Rattle.ic_hub.proofs.Shape.{shape_of, less_at}
 use Rattle.ic_hub.proofs.Ticking.{some_one}
 use Rattle.ic_hub.proofs.Moving.{nought_stands, memory_stands}
@@ -83,7 +81,7 @@ record AtTick (s : Hubbing) (h : List Entry) (l : Living) : Type 0 where
 at_tick : (s : Hubbing) (h : List Entry) (q : ℕ) (l : Living) → Shaped s → Stands s h → slice_get s.live q ≡ Some l → AtTick s h l
 at_tick s h q l shaped stands here =
     let settings : (i : ℕ) (o : OutgoingState) → slice_get l.senders i ≡ Some o → o.sending.settings ≡ s.settings =
-        (λ i o at. all_at (λ (x : OutgoingState). x.sending.settings ≡ s.settings) l.senders i o (shaped.of_hub q l here).settings at) in
+    (λ i o at. all_at (λ (x : OutgoingState). x.sending.settings ≡ s.settings) l.senders i o (shaped.of_hub q l here).settings at) in
     let was = stands.each q l here in
     record {
       living = shaped.living q l here;
@@ -199,9 +197,9 @@ first_spent s table h q l key seq is stands here before first = record {
       | inr w ↦ elim w [
         | inl later ↦ (let more = less_at s.live q a.at l a.living is.ascend later here a.here in let number = a.number in absurd (omega (arith, more, number, less)))
         | inr same ↦ (
-          let one : a.living ≡ l = some_one a.living l (sym a.here ∙ ap (λ n. slice_get s.live n) same ∙ here) in
-          let number : l.number ≡ other = ap (λ (x : Living). x.number) (sym one) ∙ a.number in
-          absurd (omega (arith, number, less)))
+            let one : a.living ≡ l = some_one a.living l (sym a.here ∙ ap (λ n. slice_get s.live n) same ∙ here) in
+            let number : l.number ≡ other = ap (λ (x : Living). x.number) (sym one) ∙ a.number in
+            absurd (omega (arith, number, less)))
       ]
     ]
 

@@ -1,17 +1,14 @@
 -- A hub stands on with a tick that isn't refused.
-use Rattle.std.proofs.Common.{◌≡◌, ◌≢◌, ◌+◌, ℕ, ℤ, min, List, [], ◌∷◌, ◌++◌, map, true, false, Option, Some, None, Result, Ok, Err, refl, ap, sym, ◌∙◌, subst, arith, inl, inr, ◌⊎◌, slice_get}
-use Rattle.std.specs.List.{AllByRecursion, Contains, flat_map}
-use Rattle.ic_base.specs.declared.keys.ConnKey.{ConnKey}
-use Rattle.ic_base.specs.declared.keys.ConnEnd.{ConnEnd}
+use Rattle.std.proofs.Common.{◌≡◌, ℕ, ℤ, List, [], ◌∷◌, ◌++◌, map, Some, Ok, refl, ap, sym, ◌∙◌, subst, arith, slice_get}
+use Rattle.std.specs.List.{AllByRecursion, flat_map}
 use Rattle.ic_base.specs.declared.datagram.Datagram.{Datagram}
 use Rattle.ic_conntab.specs.Table.{Table}
 use Rattle.ic_law.specs.declared.history.HubAsk.TheVariants.{Begin, Take, Tick}
 use Rattle.ic_law.specs.declared.history.Entry.{Entry}
 use Rattle.ic_law.specs.Arriving.{IsServed}
 use Rattle.ic_law.specs.Emission.{clock_of, next_clock}
-use Rattle.ic_receiver.specs.Receiving.{Receiving}
 use Rattle.ic_receiver.proofs.Others.{stands_silent}
-use Rattle.ic_outgoing.specs.Outgoing.{OutgoingState, next_tick, ticking}
+use Rattle.ic_outgoing.specs.Outgoing.{next_tick, ticking}
 use Rattle.ic_outgoing.specs.Standing.{Stands as SenderStands}
 use Rattle.ic_ends.specs.Entries.{IsTick}
 use Rattle.ic_ends.specs.Laws.{AboutTicks}
@@ -23,7 +20,7 @@ use Rattle.ic_ends.proofs.Served.{served_before}
 use Rattle.ic_hub.specs.Hubbing.{Hubbing, Living, IsHub, place_in}
 use Rattle.ic_hub.specs.Entries.{tick_entry}
 use Rattle.ic_hub.specs.Standing.{LivingStands, Stands}
-use Rattle.ic_hub.specs.Ticking.{Passes, MayTick, emission_of, ticked_query, ticked}
+use Rattle.ic_hub.specs.Ticking.{Passes, emission_of, ticked_query, ticked}
 use Rattle.ic_hub.proofs.Places.{Shaped, all_at, at_map, map_at}
 use Rattle.ic_hub.proofs.Shape.{shape_of}
 use Rattle.ic_hub.proofs.Moving.{SameQueries, adds}
@@ -58,9 +55,9 @@ living_stands s h q l shaped stands all pass here =
     let passes = all_at (λ (x : Living). AllByRecursion Passes x.senders) s.live q l pass here in
     record {
       senders = λ i o at.
-        let w = at_map ticking l.senders i o at in
-        let its = all_at Passes l.senders i w.0 passes w.1 in
-        subst (λ x. SenderStands x (h ++ its_tick s ∷ [])) w.2 (its.stands h (its_tick s) (record { ds = flat_map emission_of s.live; ask = refl; reply = refl; among = among s q i l w.0 shaped all here w.1 }) (was.senders i w.0 w.1));
+          let w = at_map ticking l.senders i o at in
+          let its = all_at Passes l.senders i w.0 passes w.1 in
+          subst (λ x. SenderStands x (h ++ its_tick s ∷ [])) w.2 (its.stands h (its_tick s) (record { ds = flat_map emission_of s.live; ask = refl; reply = refl; among = among s q i l w.0 shaped all here w.1 }) (was.senders i w.0 w.1));
       receivers = λ i r at. stands_silent s.settings r h (its_tick s) (tick_passes h (its_tick s) r.end (is_tick s h shaped stands all)).1 (was.receivers i r at);
       served = λ i motion last m at. served_before l.number motion h (its_tick s) last (λ from served. unserved s l.number motion from served) (was.served i motion last m at);
     }
@@ -75,8 +72,8 @@ tick_stands s h shaped shaped_then stands all pass =
       shaped = shaped_then;
       same = same_ticked s.live;
       stand = λ i m at.
-        let w = at_map ticked_query s.live i m at in
-        subst (λ x. LivingStands s.settings x (h ++ its_tick s ∷ [])) w.2 (living_stands s h i w.0 shaped stands all pass w.1);
+          let w = at_map ticked_query s.live i m at in
+          subst (λ x. LivingStands s.settings x (h ++ its_tick s ∷ [])) w.2 (living_stands s h i w.0 shaped stands all pass w.1);
       top = refl;
       clock = (clock_moves h (its_tick s)).ticks refl ∙ next_is h s.tick stands.clock;
       lives = lives_on h (its_tick s) (λ query ends asked begun. let bad : Tick ≡ Begin query ends = asked in cc) refl;

@@ -1,7 +1,6 @@
-use Rattle.std.proofs.Common.{◌≡◌, ◌++◌, List, ◌∷◌, [], Result, Ok, Err, ◌∙◌, sym, subst, ap}
+use Rattle.std.proofs.Common.{◌++◌, List, ◌∷◌, [], Result, ◌∙◌, subst, ap}
 use Rattle.std.specs.List.{AllByRecursion, flat_map}
 use Rattle.ic_base.specs.declared.datagram.Datagram.{Datagram}
-use Rattle.ic_law.specs.declared.history.Entry.{Entry}
 use Rattle.ic_law.specs.declared.history.TickNo.{TickNo}
 use Rattle.ic_hub.specs.Hubbing.{Hubbing, Living, IsHub}
 use Rattle.ic_hub.specs.Entries.{tick_entry}
