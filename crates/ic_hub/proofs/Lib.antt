@@ -5,6 +5,7 @@ pub mod Finds
 pub mod Moving
 pub mod Receivers
 pub mod Taking
+pub mod Beginning
 pub mod Putting
 pub mod Leaving
 pub mod Choosing

@@ -68,4 +68,5 @@ hub_with s table q l m is here number ends of_hub =
       ascend = ascend_with s.live q l m here number is.ascend;
       each = all_with (IsOfHub (place_in s) s.tick) s.live q m is.each of_hub;
       checked = is.checked;
+      last = is.last;
     }

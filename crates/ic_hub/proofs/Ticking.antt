@@ -224,6 +224,7 @@ hub_ticked s table is all = record {
       (all_both (IsOfHub (place_in s) s.tick) (λ l. AllByRecursion Passes l.senders) (λ l. IsOfHub (place_in s) (next_tick s.tick) (ticked_query l)) s.live
       (λ l of_hub passes. of_hub_ticked (place_in s) s.tick l of_hub passes) is.each all);
   checked = is.checked;
+  last = omega arith;
 }
 
 -- so is it of a hub with these queries and this tick

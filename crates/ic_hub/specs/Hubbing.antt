@@ -1,5 +1,5 @@
 -- A hub, as contracts see it.
-use Rattle.std.specs.Prelude.{◌≡◌, ℕ, ◌<◌, ◌==◌, ⊤, ℤ, List, [], ◌∷◌, length, map, Bool, if◌then◌else◌, Option, Some, None}
+use Rattle.std.specs.Prelude.{◌≡◌, ℕ, ◌<◌, ◌≤◌, ◌==◌, ⊤, ℤ, List, [], ◌∷◌, length, map, Bool, if◌then◌else◌, Option, Some, None}
 use Rattle.std.specs.List.{AllByRecursion}
 use Rattle.std.specs.FinMap.{get}
 use Rattle.ic_base.specs.declared.keys.ConnKey.{ConnKey}
@@ -9,6 +9,7 @@ use Rattle.ic_base.specs.Settings.{AreChecked}
 use Rattle.ic_conntab.specs.Table.{Table}
 use Rattle.ic_law.specs.Points.{Place, place_at}
 use Rattle.ic_law.specs.Asking.{AreEnds}
+use Rattle.ic_law.specs.Emission.{last_tick}
 use Rattle.ic_ends.specs.Entries.{IsOurs}
 use Rattle.ic_outgoing.specs.Outgoing.{OutgoingState}
 use Rattle.ic_places.specs.Ends.{sending_ends, receiving_ends, keys_of, motions_of}
@@ -85,3 +86,4 @@ pub record IsHub (s : Hubbing) (table : Table) : Type 0 where
   pub ascend : Ascend s.live
   pub each : AllByRecursion (IsOfHub (place_in s) s.tick) s.live
   pub checked : AreChecked s.settings
+  pub last : s.tick ≤ last_tick

@@ -7,4 +7,5 @@ pub mod Leaving
 pub mod Ticking
 pub mod Laws
 pub mod Taking
+pub mod Beginning
 pub mod Coming

@@ -1,12 +1,15 @@
 // Queries that begin.
-ghost use Rattle.std.specs.Prelude.{◌≡◌, ◌≤◌, ◌++◌, [], ◌∷◌, List, OnErr, IfOk};
+ghost use Rattle.std.specs.Prelude.{◌≡◌, ◌≤◌, ◌<◌, ◌++◌, [], ◌∷◌, List, None, length, take, drop, vec_len, vec_capacity, OnErr, OnOk, IfOk};
+ghost use Rattle.std.specs.List.{AllByRecursion};
 ghost use Rattle.ic_base.specs.Settings.{AreChecked};
 ghost use Rattle.ic_law.specs.declared.history.Entry.{Entry};
 ghost use Rattle.ic_law.specs.Asking.{AreEnds};
-ghost use Rattle.ic_hub.specs.Hubbing.{place_in};
+ghost use Rattle.ic_law.specs.Emission.{last_tick};
+ghost use Rattle.ic_hub.specs.Hubbing.{Ascend, place_in};
 ghost use Rattle.ic_hub.specs.Entries.{begin_entry};
 ghost use Rattle.ic_hub.specs.Standing.{Stands};
 ghost use Rattle.ic_hub.specs.Calls.{SamePlace};
+ghost use Rattle.ic_hub.specs.Beginning.{IsBetween, SendsFirst, ReceivesFirst, senders_begun, receivers_begun, IsBegun};
 
 use crate::hub::Hub;
 use crate::query::Query;
@@ -16,18 +19,72 @@ use ic_places::Places;
 use ic_receiver::Receiver;
 use std::alloc::{AllocError, Global};
 
+/// Does nothing. Its clause: an end is of segments.
+fn named(end: &ConnEnd)
+    ensures { IsBetween end.now }
+{
+    let _from = end.key.from.number();
+    let _to = end.key.to.number();
+}
+
+/// The connection of an end is put behind others, where it sends.
+fn add_sender(
+    alloc: Global,
+    senders: &mut Vec<Outgoing>,
+    end: &ConnEnd,
+    settings: &Settings,
+    tick: u64,
+) -> Result<(), AllocError>
+    requires checked { AreChecked settings.now }
+    requires last { tick ≤ last_tick }
+    ensures begun { OnOk result (senders.new.items ≡ senders.old.items ++ senders_begun settings.now tick (end.now ∷ [])) }
+    ensures sends { OnOk result (SendsFirst settings.now tick end.now) }
+    ensures between { IsBetween end.now }
+{
+    named(end);
+    if !end.sending {
+        return Ok(());
+    }
+    let sender = Outgoing::new(alloc, *end, settings, tick)?;
+    senders.push(sender)?;
+    Ok(())
+}
+
+/// The connection of an end is put behind others, where it receives.
+fn add_receiver(
+    alloc: Global,
+    receivers: &mut Vec<Receiver>,
+    end: &ConnEnd,
+    settings: &Settings,
+) -> Result<(), AllocError>
+    requires checked { AreChecked settings.now }
+    ensures begun { OnOk result (receivers.new.items ≡ receivers.old.items ++ receivers_begun settings.now (end.now ∷ [])) }
+    ensures receives { OnOk result (ReceivesFirst settings.now end.now) }
+{
+    if end.sending {
+        return Ok(());
+    }
+    let receiver = Receiver::new(alloc, *end, settings)?;
+    receivers.push(receiver)?;
+    Ok(())
+}
+
 /// A connection for each end that sends.
 fn senders(
     alloc: Global,
     ends: &[ConnEnd],
     settings: &Settings,
     tick: u64,
-) -> Result<Vec<Outgoing>, AllocError> {
+) -> Result<Vec<Outgoing>, AllocError>
+    requires checked { AreChecked settings.now }
+    requires last { tick ≤ last_tick }
+    ensures begun { IfOk result (λ v. v.items ≡ senders_begun settings.now tick ends.now) }
+    ensures sends { OnOk result (AllByRecursion (SendsFirst settings.now tick) ends.now) }
+    ensures between { OnOk result (AllByRecursion IsBetween ends.now) }
+{
     let mut senders = Vec::new(alloc);
     for end in ends {
-        if end.sending {
-            senders.push(Outgoing::new(alloc, *end, settings, tick)?)?;
-        }
+        add_sender(alloc, &mut senders, end, settings, tick)?;
     }
     Ok(senders)
 }
@@ -37,23 +94,47 @@ fn receivers(
     alloc: Global,
     ends: &[ConnEnd],
     settings: &Settings,
-) -> Result<Vec<Receiver>, AllocError> {
+) -> Result<Vec<Receiver>, AllocError>
+    requires checked { AreChecked settings.now }
+    ensures begun { IfOk result (λ v. v.items ≡ receivers_begun settings.now ends.now) }
+    ensures receives { OnOk result (AllByRecursion (ReceivesFirst settings.now) ends.now) }
+{
     let mut receivers = Vec::new(alloc);
     for end in ends {
-        if !end.sending {
-            receivers.push(Receiver::new(alloc, *end, settings)?)?;
-        }
+        add_receiver(alloc, &mut receivers, end, settings)?;
     }
     Ok(receivers)
 }
 
 /// No sender served, for each of so many motions.
-fn unserved(alloc: Global, motions: usize) -> Result<Vec<Option<SegId>>, AllocError> {
+fn unserved(alloc: Global, motions: usize) -> Result<Vec<Option<SegId>>, AllocError>
+    ensures count { IfOk result (λ v. length v.items ≡ motions) }
+    ensures none { IfOk result (λ v. AllByRecursion (λ o. o ≡ None) v.items) }
+{
     let mut served = Vec::new(alloc);
     for _ in 0..motions {
         served.push(None)?;
     }
     Ok(served)
+}
+
+/// Where a query of this number belongs among live ones, whose numbers ascend.
+fn place_for(live: &[Query], number: u32) -> usize
+    requires { Ascend live.now }
+    ensures within { result ≤ length live.now }
+    ensures before { AllByRecursion (λ l. l.number < number) (take result live.now) }
+    ensures behind { AllByRecursion (λ l. number ≤ l.number) (drop result live.now) }
+{
+    live.partition_point(|query| query.number < number)
+}
+
+/// Inserts a query where there is room.
+fn insert(live: &mut Vec<Query>, place: usize, query: Query)
+    requires place { place ≤ vec_len live.old }
+    requires room { vec_len live.old < vec_capacity live.old }
+    ensures items { live.new.items ≡ take place live.old.items ++ query ∷ drop place live.old.items }
+{
+    let _inserted = live.insert(place, query);
 }
 
 impl Query {
@@ -66,14 +147,18 @@ impl Query {
         tick: u64,
     ) -> Result<Query, AllocError>
         requires checked { AreChecked settings.now }
+        requires last { tick ≤ last_tick }
+        ensures begun { IfOk result (IsBegun settings.now tick number ends.now) }
     {
         let places = Places::new(alloc, ends)?;
         let served = unserved(alloc, places.motions())?;
+        let senders = senders(alloc, ends, settings, tick)?;
+        let receivers = receivers(alloc, ends, settings)?;
         Ok(Query {
             number,
             places,
-            senders: senders(alloc, ends, settings, tick)?,
-            receivers: receivers(alloc, ends, settings)?,
+            senders,
+            receivers,
             served,
         })
     }
@@ -95,9 +180,11 @@ impl Hub {
         let Ok(()) = self.live.reserve(1) else {
             return Err(BeginNo::Memory);
         };
-        self.table.begin(alloc, query, begun.places.keys())?;
-        let place = self.live.partition_point(|live| live.number < query);
-        let _inserted = self.live.insert(place, begun);
+        if let Err(no) = self.table.begin(alloc, query, begun.places.keys()) {
+            return Err(no);
+        }
+        let place = place_for(self.live.as_slice(), query);
+        insert(&mut self.live, place, begun);
         Ok(())
     }
 }

@@ -1,0 +1,32 @@
+use Rattle.std.proofs.Common.{rules, ◌≡◌, ◌≤◌, ◌<◌, ◌++◌, [], ◌∷◌, List, None, length, take, drop, vec_len, vec_capacity, OnErr, OnOk, IfOk, ℕ, ◌+◌, ◌-◌, ◌*◌, ◌/◌, ◌%◌, Bool, true, false, nat_eq, nat_lt, slice_index_or, slice_set, bit_and, bit_or, Fits, w8, w32, w64, Bor, MutBor}
+use Rattle.std.specs.List.{AllByRecursion}
+use Rattle.ic_base.specs.Settings.{AreChecked}
+use Rattle.ic_law.specs.declared.history.Entry.{Entry}
+use Rattle.ic_law.specs.Asking.{AreEnds}
+use Rattle.ic_law.specs.Emission.{last_tick}
+use Rattle.ic_hub.specs.Hubbing.{Ascend, place_in}
+use Rattle.ic_hub.specs.Entries.{begin_entry}
+use Rattle.ic_hub.specs.Standing.{Stands}
+use Rattle.ic_hub.specs.Calls.{SamePlace}
+use Rattle.ic_hub.specs.Beginning.{IsBetween, SendsFirst, ReceivesFirst, senders_begun, receivers_begun, IsBegun}
+use Rattle.ic_hub.proofs.hub.Hub.begin.Goals as goal
+
+-- src/begin.rt:178:13
+pub returns-in_default-clause-stands : goal.returns-in_default-clause-stands
+returns-in_default-clause-stands c = ?
+
+-- src/begin.rt:181:13
+pub returns-in_default-reserve-clause-stands : goal.returns-in_default-reserve-clause-stands
+returns-in_default-reserve-clause-stands c = ?
+
+-- src/begin.rt:184:13
+pub returns-in-Err-clause-stands : goal.returns-in-Err-clause-stands
+returns-in-Err-clause-stands c = ?
+
+-- src/begin.rt:171:5
+pub invariant_of-self-2 : goal.invariant_of-self-2
+invariant_of-self-2 c = ?
+
+-- src/begin.rt:171:5
+pub returns-clause-stands : goal.returns-clause-stands
+returns-clause-stands c = ?
