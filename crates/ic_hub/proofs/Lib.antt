@@ -18,4 +18,3 @@ pub mod Ticking
 pub mod TickingEmits
 pub mod TickingStands
 pub mod TickingRefused
-mod Ticking
