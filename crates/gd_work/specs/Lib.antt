@@ -1,0 +1,4 @@
+pub mod Turns
+pub mod Sending
+pub mod Cutting
+pub mod Taking
