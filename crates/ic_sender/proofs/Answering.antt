@@ -1,5 +1,5 @@
 -- A connection stands for each answer that it hears.
-use Rattle.std.proofs.Common.{◌≡◌, ◌≢◌, ℕ, zero, suc, ◌+◌, ◌-◌, ◌/◌, ◌%◌, ◌<◌, ◌≤◌, max, List, [], ◌∷◌, ◌++◌, length, map, Bool, true, false, cond, ◌&&◌, ◌||◌, ◌==◌, Option, Some, None, Result, Ok, Err, refl, ap, sym, ◌∙◌, subst, arith, inl, inr, ◌⊎◌}
+use Rattle.std.proofs.Common.{◌≡◌, ◌≢◌, ℕ, zero, suc, ◌+◌, ◌-◌, ◌/◌, ◌%◌, ◌<◌, ◌≤◌, max, List, [], ◌∷◌, ◌++◌, length, map, Bool, true, false, cond, ◌&&◌, ◌||◌, ◌==◌, Some, Result, Ok, refl, ap, sym, ◌∙◌, subst, arith, inl, inr, ◌⊎◌}
 use Rattle.std.specs.Prelude.{nat_lt, filter, take, drop}
 use Rattle.std.specs.Int.{w32, from_be_bytes}
 use Rattle.std.specs.List.{flat_map, Contains, list_any}
@@ -10,7 +10,7 @@ use Rattle.ic_base.specs.declared.settings.Settings.{Settings}
 use Rattle.ic_base.specs.declared.datagram.Datagram.{Datagram}
 use Rattle.ic_chunk.specs.Assembly.{together}
 use Rattle.ic_header.specs.declared.flags.Flags.{Flags}
-use Rattle.ic_header.specs.declared.flags.Flags.TheVariants.{Rows, LastRows, Query, Ack, Stop, Nak, Disorder, Duplicate}
+use Rattle.ic_header.specs.declared.flags.Flags.TheVariants.{Ack, Stop, Nak, Disorder, Duplicate}
 use Rattle.ic_expire.specs.declared.item.Item.{Item}
 use Rattle.ic_expire.specs.Items.{is_upto}
 use Rattle.ic_expire.specs.Queue.{Queue, without}
@@ -20,23 +20,23 @@ use Rattle.ic_law.specs.declared.history.HubReply.TheVariants.{Came, Memory}
 use Rattle.ic_law.specs.declared.history.Arrived.TheVariants.{Handled, Dropped}
 use Rattle.ic_law.specs.declared.history.DropCause.TheVariants as cause
 use Rattle.ic_law.specs.declared.history.Entry.{Entry}
-use Rattle.ic_law.specs.Packets.{Packet, RowPacket, packet_of, key_of, goes_forth, row_datagram}
-use Rattle.ic_law.specs.History.{emits, datagrams_of, was_handled, answer_in, greatest, rows_in, rows_emitted_of, hears, heard_of, is_stop, stop_flags, stopped_of, IsStopped, run_heard, run_told, run_by, consumed_heard, consumed_told, consumed_by, sent_upto}
-use Rattle.ic_law.specs.Filling.{Sealed, filling, filling_of, sealed_of}
-use Rattle.ic_law.specs.Points.{Every, SentUpto, IsDirected}
+use Rattle.ic_law.specs.Packets.{Packet, packet_of, key_of, goes_forth, row_datagram}
+use Rattle.ic_law.specs.History.{datagrams_of, was_handled, answer_in, greatest, rows_in, rows_emitted_of, hears, is_stop, stop_flags, stopped_of, IsStopped, run_heard, run_told, run_by, consumed_heard, consumed_told, consumed_by, sent_upto}
+use Rattle.ic_law.specs.Filling.{Sealed, filling, sealed_of}
+use Rattle.ic_law.specs.Points.{SentUpto}
 use Rattle.ic_law.specs.Sending.{AnswersHeard, Refuses, IsStrayBy, IsStray}
 use Rattle.ic_law.specs.Sending.AnswersHeard.{Unheard, Strayed, Heard}
 use Rattle.ic_law.specs.Numbers.{words_in, words_from, IsIncreasingFrom, last_or}
-use Rattle.ic_law.specs.Emission.{Timer, Timing, timing_of, moved, heard_then, timing_heard, names_its_number, listed_by, listed_of, listed_then, again_numbers, clock_of, rows_at, numbers_behind, ticks_by, queries_in}
+use Rattle.ic_law.specs.Emission.{Timer, Timing, timing_of, moved, heard_then, names_its_number, listed_by, listed_then, again_numbers, clock_of, rows_at, numbers_behind, queries_in}
 use Rattle.ic_law.specs.Emission.{is_among as stands_among}
 use Rattle.ic_law.proofs.Lists.{Contains-map, map-append}
 use Rattle.ic_law.proofs.Readings.{run_heard-push, consumed_heard-push, stopped_of-push}
 use Rattle.ic_sender.specs.declared.send_no.SendNo.{SendNo}
 use Rattle.ic_sender.specs.declared.flight.Flight.{Flight}
-use Rattle.ic_sender.specs.Sending.{Sending, Answer, run_with, is_it, copies, hearing, datagrams_again, datagrams_next, rows_next, emitting, waits_next, halting, flight_at}
+use Rattle.ic_sender.specs.Sending.{Sending, Answer, run_with, hearing, datagrams_again, datagrams_next, rows_next, emitting, waits_next, halting}
 use Rattle.ic_sender.specs.Calls.{Hears, acknowledging, repeating, missing_of, unknown, IsStrayAck, IsStrayDuplicate, IsStrayDisorder, IsStrayNak}
 use Rattle.ic_sender.specs.Entries.{IsNothingOf, came_of, IsHearing}
-use Rattle.ic_sender.specs.Standing.{Waits, Alike, Reads, Mirrors, Runs, Reflects, KeepsSending, Stands, StandsOn}
+use Rattle.ic_sender.specs.Standing.{Waits, Mirrors, Reflects, Stands, StandsOn}
 use Rattle.ic_sender.proofs.Lists.{in_behind, behind_above, map_filter, in_filter, find_same}
 use Rattle.ic_sender.proofs.Sent.{greatest_sent}
 use Rattle.ic_sender.proofs.Pairs.{Found, waits_find, copies_are}

@@ -1,7 +1,7 @@
 -- A new connection stands for each history in which nothing of it is, and passes over what doesn't concern it.
-use Rattle.std.proofs.Common.{◌≡◌, ◌≢◌, ℕ, zero, suc, ◌+◌, ◌-◌, ◌<◌, ◌≤◌, ◌^◌, lit<, List, [], ◌∷◌, ◌++◌, length, map, Bool, true, false, cond, ◌==◌, Option, Some, None, refl, ap, sym, ◌∙◌, subst, arith, inl, inr}
+use Rattle.std.proofs.Common.{◌≡◌, ℕ, ◌-◌, ◌≤◌, lit<, List, [], ◌∷◌, ◌++◌, length, map, Bool, true, false, cond, ◌==◌, Option, Some, None, refl, ap, sym, ◌∙◌, subst, arith, inl}
 use Rattle.std.specs.Prelude.{nat_lt}
-use Rattle.std.specs.List.{flat_map, Contains, list_any, AllByRecursion}
+use Rattle.std.specs.List.{flat_map, list_any, AllByRecursion}
 use Rattle.std.specs.Option.{option_map}
 use Rattle.ic_base.specs.declared.keys.ConnEnd.{ConnEnd}
 use Rattle.ic_base.specs.declared.keys.ConnKey.{ConnKey}
@@ -11,21 +11,20 @@ use Rattle.ic_base.specs.declared.settings.Flow.TheVariants.{Loss, Capacity}
 use Rattle.ic_base.specs.Settings.{AreChecked}
 use Rattle.ic_chunk.specs.Assembly.{together}
 use Rattle.ic_expire.specs.declared.item.Item.{Item}
-use Rattle.ic_window.specs.State.{WindowState, fresh, fresh_window}
+use Rattle.ic_window.specs.State.{fresh, fresh_window}
 use Rattle.ic_law.specs.declared.history.Entry.{Entry}
 use Rattle.ic_law.specs.Packets.{RowPacket}
-use Rattle.ic_law.specs.History.{emits, emitted_of, rows_in, rows_emitted_of, hears, is_stop}
+use Rattle.ic_law.specs.History.{emits, rows_in, rows_emitted_of, hears, is_stop}
 use Rattle.ic_law.specs.Filling.{Sealed, filling, sealed_of}
-use Rattle.ic_law.specs.Points.{Every, SentUpto, IsHere}
-use Rattle.ic_law.specs.Sending.{Refuses}
+use Rattle.ic_law.specs.Points.{SentUpto}
 use Rattle.ic_law.specs.Emission.{Timer, Asked, Timing, timing_of, moved, heard_then, timing_ticked, lost_where, due_numbers, tried, asked_again, clock_of, ticks_by, rows_at}
 use Rattle.ic_law.proofs.Lists.{Contains-none}
 use Rattle.ic_law.proofs.Readings.{fold_every, every_none}
 use Rattle.ic_law.proofs.Timings.{timing_of-none}
 use Rattle.ic_sender.specs.declared.flight.Flight.{Flight}
-use Rattle.ic_sender.specs.Sending.{Sending, begun, emitting, waits_next, rows_next}
-use Rattle.ic_sender.specs.Entries.{IsNothingOf, IsBefore, IsSilent}
-use Rattle.ic_sender.specs.Standing.{IsNamed, Waits, Alike, IsPayload, Reads, Mirrors, IsSettled, Runs, Reflects, KeepsSending, Stands, HoldsNone, IsUntouched}
+use Rattle.ic_sender.specs.Sending.{Sending, begun, emitting, rows_next}
+use Rattle.ic_sender.specs.Entries.{IsBefore, IsSilent}
+use Rattle.ic_sender.specs.Standing.{IsNamed, Waits, Alike, IsPayload, Mirrors, IsSettled, Reflects, KeepsSending, Stands, HoldsNone, IsUntouched}
 use Rattle.ic_sender.proofs.Emitting.{Ready, emits_on}
 use Rattle.ic_sender.proofs.Passing.{keeps_when, chunks_stay, finished_stays, sealed_stays, run_stays, consumed_stays, stopped_stays, settled_stays, settled_rows, settled_waits, no_datagram}
 use Rattle.ic_sender.proofs.Going.{stays}

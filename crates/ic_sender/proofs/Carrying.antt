@@ -1,7 +1,6 @@
 -- What the datagrams of a sending end read as.
-use Rattle.std.proofs.Common.{◌≡◌, ℕ, ◌+◌, ◌<◌, ◌≤◌, ◌^◌, List, [], ◌∷◌, ◌++◌, length, map, Bool, true, false, cond, ◌&&◌, Some, refl, ap, sym, ◌∙◌, subst, arith, inl, inr, ◌⊎◌}
+use Rattle.std.proofs.Common.{◌≡◌, ℕ, ◌+◌, ◌<◌, ◌≤◌, ◌^◌, List, [], ◌∷◌, ◌++◌, length, map, Bool, true, false, cond, ◌&&◌, refl, ap, sym, ◌∙◌, inl, inr}
 use Rattle.std.specs.List.{flat_map, Contains}
-use Rattle.std.proofs.lemmas.List.Elements.{Contains-append_cases}
 use Rattle.ic_base.specs.declared.keys.ConnEnd.{ConnEnd}
 use Rattle.ic_base.specs.declared.datagram.Datagram.{Datagram}
 use Rattle.ic_base.specs.Keys.{key_eq}
@@ -9,7 +8,7 @@ use Rattle.ic_base.proofs.SameKeys.{key_eq-same}
 use Rattle.ic_law.specs.Packets.{RowPacket, row_datagram, query_datagram, rows_flags}
 use Rattle.ic_law.specs.History.{rows_in, rows_read}
 use Rattle.ic_law.specs.Emission.{queries_in, queries_read, is_query}
-use Rattle.ic_law.proofs.Lists.{Contains-none, Contains-one, Contains-head, Contains-tail, head_or_tail, flat_map-append}
+use Rattle.ic_law.proofs.Lists.{Contains-none, Contains-head, Contains-tail, head_or_tail}
 use Rattle.ic_law.proofs.Making.{FitsWords, row_reads, row_in, query_reads}
 use Rattle.ic_sender.specs.Standing.{IsNamed}
 

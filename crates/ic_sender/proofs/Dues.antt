@@ -1,14 +1,12 @@
 -- The numbers that are due at a tick, and what waits after it.
-use Rattle.std.proofs.Common.{◌≡◌, ℕ, zero, suc, ◌+◌, ◌-◌, ◌<◌, ◌≤◌, List, [], ◌∷◌, ◌++◌, map, Bool, true, false, cond, ◌&&◌, ◌||◌, ◌==◌, Option, Some, None, refl, ap, sym, ◌∙◌, subst, arith, inl, inr, ◌⊎◌}
-use Rattle.std.specs.Prelude.{nat_le, filter, find}
+use Rattle.std.proofs.Common.{◌≡◌, ℕ, zero, suc, ◌+◌, ◌<◌, ◌≤◌, List, [], ◌∷◌, map, Bool, true, false, cond, ◌||◌, ◌==◌, Some, refl, ap, sym, ◌∙◌, subst, arith, inl, inr, ◌⊎◌}
+use Rattle.std.specs.Prelude.{filter, find}
 use Rattle.std.specs.List.{Contains, list_any}
 use Rattle.std.proofs.lemmas.Bool.{cases_Bool, leb-true, le-leb, eqb-true}
 use Rattle.ic_expire.specs.declared.item.Item.{Item}
-use Rattle.ic_expire.specs.declared.dues.Due.{Due}
 use Rattle.ic_expire.specs.Items.{is_of}
-use Rattle.ic_expire.specs.Items.{is_due as is_over}
-use Rattle.ic_expire.specs.Queue.{with_item, without, held_of, dues_of}
-use Rattle.ic_expire.proofs.Holding.{put_holds, rest_holds, due_gives}
+use Rattle.ic_expire.specs.Queue.{with_item, held_of, dues_of}
+use Rattle.ic_expire.proofs.Holding.{put_holds, due_gives}
 use Rattle.ic_law.specs.Numbers.{IsIncreasingFrom}
 use Rattle.ic_law.specs.Emission.{Timer, is_due, due_numbers, numbers_behind, wait_in}
 use Rattle.ic_law.proofs.Lists.{Contains-none, Contains-head, Contains-tail, head_or_tail, Contains-map, map-Contains}

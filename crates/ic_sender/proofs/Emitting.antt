@@ -1,5 +1,5 @@
 -- The end of every event: what there is room for is emitted, and the connection stands for the entry.
-use Rattle.std.proofs.Common.{◌≡◌, ℕ, zero, suc, ◌+◌, ◌-◌, ◌<◌, ◌≤◌, ◌^◌, min, List, [], ◌∷◌, ◌++◌, length, map, Bool, true, false, cond, ◌&&◌, Option, Some, None, refl, ap, sym, ◌∙◌, subst, arith, inl, inr, ◌⊎◌, append_assoc, append-nil, slice_get}
+use Rattle.std.proofs.Common.{◌≡◌, ℕ, zero, suc, ◌+◌, ◌-◌, ◌≤◌, min, List, [], ◌∷◌, ◌++◌, length, map, Bool, true, false, cond, ◌&&◌, Option, Some, None, refl, ap, sym, ◌∙◌, subst, arith, inl, inr, ◌⊎◌, append_assoc, slice_get}
 use Rattle.std.specs.Prelude.{nat_lt, nat_le}
 use Rattle.std.specs.List.{flat_map, Contains, AllByRecursion}
 use Rattle.std.proofs.lemmas.List.Elements.{Contains-append_cases, Contains-append_left, Contains-append_right}
@@ -11,7 +11,7 @@ use Rattle.ic_base.specs.Settings.{AreChecked}
 use Rattle.ic_expire.specs.declared.item.Item.{Item}
 use Rattle.ic_expire.specs.Queue.{with_item}
 use Rattle.ic_expire.proofs.Holding.{put_holds}
-use Rattle.ic_window.specs.State.{WindowState, IsWindow}
+use Rattle.ic_window.specs.State.{WindowState}
 use Rattle.ic_window.specs.Window.{room_of, times}
 use Rattle.ic_window.specs.Waiting.{wait_of}
 use Rattle.ic_window.specs.declared.round_trip.RoundTrip.{RoundTrip}
@@ -21,16 +21,16 @@ use Rattle.ic_law.specs.Packets.{RowPacket, row_datagram}
 use Rattle.ic_law.specs.History.{emits, emitted_of, rows_in, rows_emitted_of, number_of, sent_upto, stopped_of, run_heard, consumed_heard}
 use Rattle.ic_law.specs.Filling.{Sealed, sealed_of}
 use Rattle.ic_law.specs.Points.{SentUpto}
-use Rattle.ic_law.specs.Emission.{Timer, Asked, Timing, timing_of, next_timing, settled, asked_then, fresh_timer, moved, clock_of, wait_in, row_at, rows_at, numbers_behind, standing, rows_then, again_numbers, IsSoon}
-use Rattle.ic_law.proofs.Lists.{Contains-none, Contains-one, Contains-head, Contains-tail, head_or_tail, map-append, Contains-map}
+use Rattle.ic_law.specs.Emission.{Timer, Asked, Timing, timing_of, settled, fresh_timer, moved, clock_of, wait_in, row_at, rows_at, numbers_behind, standing, rows_then, again_numbers, IsSoon}
+use Rattle.ic_law.proofs.Lists.{Contains-none, Contains-head, Contains-tail, head_or_tail, map-append, Contains-map}
 use Rattle.ic_law.proofs.Readings.{emitted_of-push, rows_emitted_of-push}
 use Rattle.ic_law.proofs.Timings.{timing_of-push}
 use Rattle.ic_sender.specs.declared.flight.Flight.{Flight}
-use Rattle.ic_sender.specs.Sending.{Sending, row_of, kept_at, rows_kept, capacity, count_next, rows_next, flight_of, asked_next, sending, asking, emitting, datagrams_next, waiting, waits_next}
-use Rattle.ic_sender.specs.Standing.{IsNamed, Waits, Alike, item_of, IsPayload, Reads, Mirrors, IsSettled, Runs, IsStill, Reflects}
-use Rattle.ic_sender.proofs.Lists.{in_behind, behind_has, behind-append, joined_same, map_map}
+use Rattle.ic_sender.specs.Sending.{Sending, row_of, kept_at, capacity, count_next, rows_next, flight_of, asked_next, sending, emitting, waiting, waits_next}
+use Rattle.ic_sender.specs.Standing.{IsNamed, Waits, Alike, item_of, IsPayload, Reads, Mirrors, IsSettled, Reflects}
+use Rattle.ic_sender.proofs.Lists.{in_behind, behind-append, joined_same, map_map}
 use Rattle.ic_sender.proofs.Sent.{AreSealed, row_there, rows_at-append, numbers-rows_at, in_rows_at, sent_again, sent_next, greatest_sent}
-use Rattle.ic_sender.proofs.Carrying.{CanTravel, AllTravel, rows_again, rows_ask_nothing, rows_made}
+use Rattle.ic_sender.proofs.Carrying.{AllTravel}
 
 -- A connection as an event makes it, before anything is emitted for the first time, is what the history with the event's
 -- entry says of it, what was emitted aside.

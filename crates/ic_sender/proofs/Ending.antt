@@ -1,7 +1,7 @@
 -- The end of every event, as the code comes to it by a plan.
-use Rattle.std.proofs.Common.{◌≡◌, ℕ, zero, suc, ◌+◌, ◌-◌, ◌<◌, ◌≤◌, min, List, [], ◌∷◌, ◌++◌, length, map, Bool, true, false, cond, ◌&&◌, ◌||◌, ◌==◌, inl, inr, Option, Some, None, refl, ap, sym, ◌∙◌, subst, arith, append-nil}
+use Rattle.std.proofs.Common.{◌≡◌, ℕ, ◌+◌, ◌-◌, ◌≤◌, List, [], ◌∷◌, ◌++◌, length, map, Bool, true, false, cond, ◌&&◌, ◌||◌, ◌==◌, inl, inr, Option, Some, None, refl, ap, sym, ◌∙◌, subst, arith}
 use Rattle.std.specs.Prelude.{nat_lt, nat_le, filter, find}
-use Rattle.std.specs.List.{AllByRecursion, Contains, list_any}
+use Rattle.std.specs.List.{Contains, list_any}
 use Rattle.std.proofs.lemmas.Bool.{cases_lt, eqb-true}
 use Rattle.std.specs.Option.{option_map}
 use Rattle.ic_base.specs.declared.keys.ConnEnd.{ConnEnd}
@@ -11,17 +11,16 @@ use Rattle.ic_chunk.proofs.Lists.{all_both}
 use Rattle.ic_sendring.specs.Ring.{Ring, Kept, next_packet, behind}
 use Rattle.ic_law.proofs.Lists.{map-append, Contains-head, Contains-tail}
 use Rattle.ic_expire.specs.declared.item.Item.{Item}
-use Rattle.ic_expire.specs.Queue.{Queue, IsHeld, without}
+use Rattle.ic_expire.specs.Queue.{Queue, IsHeld}
 use Rattle.ic_window.specs.State.{WindowState}
-use Rattle.ic_law.specs.Packets.{RowPacket, row_datagram}
+use Rattle.ic_law.specs.Packets.{RowPacket}
 use Rattle.ic_law.specs.Emission as law
 use Rattle.ic_sender.specs.declared.flight.Flight.{Flight}
-use Rattle.ic_sender.specs.declared.numbers.Asked.{Asked}
 use Rattle.ic_sender.specs.declared.numbers.Numbers.{Numbers}
 use Rattle.ic_sender.specs.declared.planning.Plan.{Plan}
-use Rattle.ic_sender.specs.Sending.{row_of, kept_at, is_among, is_it, named, marked, tried, Sending, count_next, rows_next, rows_kept, flight_of, emitting, datagrams_next, waiting, waits_next}
+use Rattle.ic_sender.specs.Sending.{row_of, kept_at, is_among, is_it, named, marked, tried, Sending, count_next, rows_next, rows_kept, flight_of, waiting}
 use Rattle.ic_sender.specs.Calls.{Gives, IsNow, is_unanswered}
-use Rattle.ic_sender.specs.Views.{asked_of, rows_in, row_in, Plans, count_of, asked_then, MayWait, FewTries, AsksFew}
+use Rattle.ic_sender.specs.Views.{asked_of, rows_in, row_in, Plans, count_of, MayWait, FewTries, AsksFew}
 use Rattle.ic_sender.proofs.Lists.{map_map, map_filter, joined_same, in_behind, find_filter, lt_yes, same_number}
 use Rattle.ic_sender.proofs.Ticking.{none_found, not_any}
 use Rattle.ic_sender.proofs.Emitting.{waits_soon, waits_two}

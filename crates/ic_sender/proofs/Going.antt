@@ -1,26 +1,24 @@
 -- An entry that isn't a tick, with exactly the packets of rows that go out.
-use Rattle.std.proofs.Common.{◌≡◌, ℕ, ◌+◌, ◌-◌, ◌<◌, ◌≤◌, List, [], ◌∷◌, ◌++◌, length, map, Bool, true, false, ◌||◌, refl, ap, sym, ◌∙◌, subst, arith, inl, inr, ◌⊎◌}
+use Rattle.std.proofs.Common.{◌≡◌, ℕ, ◌≤◌, List, [], ◌∷◌, ◌++◌, map, true, false, ◌||◌, refl, ap, sym, ◌∙◌, subst, arith, inl, inr}
 use Rattle.std.specs.List.{flat_map, Contains, list_any}
 use Rattle.std.proofs.lemmas.Bool.{cases_Bool}
 use Rattle.std.proofs.lemmas.List.Elements.{Contains-append_cases}
-use Rattle.ic_base.specs.declared.settings.Settings.{Settings}
-use Rattle.ic_base.specs.declared.datagram.Datagram.{Datagram}
 use Rattle.ic_expire.specs.declared.item.Item.{Item}
 use Rattle.ic_law.specs.declared.history.Entry.{Entry}
-use Rattle.ic_law.specs.Packets.{RowPacket, row_datagram}
+use Rattle.ic_law.specs.Packets.{row_datagram}
 use Rattle.ic_law.specs.History.{emits, rows_in, hears, is_stop, stopped_of}
-use Rattle.ic_law.specs.Filling.{Sealed, sealed_of}
+use Rattle.ic_law.specs.Filling.{sealed_of}
 use Rattle.ic_law.specs.Points.{Every, IsHere}
 use Rattle.ic_law.specs.Sending.{Refuses}
-use Rattle.ic_law.specs.Emission.{Timing, timing_of, moved, clock_of, rows_at, numbers_behind, again_numbers, ticks_by, queries_in}
+use Rattle.ic_law.specs.Emission.{timing_of, moved, clock_of, rows_at, numbers_behind, again_numbers, ticks_by, queries_in}
 use Rattle.ic_law.proofs.Readings.{stopped_of-push}
-use Rattle.ic_sender.specs.Sending.{Sending, count_next, rows_next, emitting, waits_next, datagrams_next}
+use Rattle.ic_sender.specs.Sending.{Sending, count_next, rows_next, emitting, waits_next}
 use Rattle.ic_sender.specs.Entries.{IsNothingOf}
-use Rattle.ic_sender.specs.Standing.{Reflects, KeepsSending, Stands}
+use Rattle.ic_sender.specs.Standing.{KeepsSending, Stands}
 use Rattle.ic_sender.proofs.Lists.{in_behind}
 use Rattle.ic_sender.proofs.Carrying.{AllTravel, rows_again, rows_ask_nothing, rows_made}
 use Rattle.ic_sender.proofs.Emitting.{Ready, rows_next-are, rows_travel, next_within, emits_on, rows_are}
-use Rattle.ic_sender.proofs.Passing.{keeps_law, clock_stays, moved_not, again_not, settled_stays, settled_rows, settled_waits, stays_ready, EmitsRows, plain_due, emits_nothing, PassesStopped, reflects_stopped, stopped_due}
+use Rattle.ic_sender.proofs.Passing.{keeps_law, again_not, settled_stays, settled_rows, settled_waits, stays_ready, EmitsRows, plain_due, emits_nothing, PassesStopped, reflects_stopped, stopped_due}
 
 -- the packets that go out can travel
 all_travel : (m : Sending) (held : List Item) (h : List Entry) (e : Entry) (again : List ℕ) → Ready m held h e → ((n : ℕ) → Contains again n → (1 ≤ n) × (n ≤ m.sent))

@@ -1,50 +1,35 @@
 -- A connection that heard an answer stands for the entry.
-use Rattle.std.proofs.Common.{◌≡◌, ◌≢◌, ℕ, zero, suc, ◌+◌, ◌-◌, ◌<◌, ◌≤◌, max, List, [], ◌∷◌, ◌++◌, length, map, Bool, true, false, cond, ◌&&◌, ◌||◌, ◌==◌, Option, Some, None, Result, Ok, Err, refl, ap, sym, ◌∙◌, subst, arith, inl, inr, ◌⊎◌, slice_get}
-use Rattle.std.specs.Prelude.{nat_lt, nat_le, filter, find}
-use Rattle.std.specs.List.{flat_map, Contains, list_any}
+use Rattle.std.proofs.Common.{◌≡◌, ℕ, ◌+◌, ◌-◌, ◌<◌, ◌≤◌, max, List, [], ◌∷◌, length, map, Bool, true, false, cond, ◌&&◌, ◌||◌, ◌==◌, Option, Some, None, refl, ap, sym, ◌∙◌, subst, arith, inl, inr}
+use Rattle.std.specs.Prelude.{nat_lt, nat_le, filter}
+use Rattle.std.specs.List.{Contains, list_any}
 use Rattle.std.specs.Option.{option_map}
-use Rattle.std.proofs.lemmas.Bool.{cases_lt, cases_Bool, leb-true, leb-false, le-leb, eqb-true}
+use Rattle.std.proofs.lemmas.Bool.{cases_Bool, leb-true, leb-false, eqb-true}
 use Rattle.ic_base.specs.declared.keys.ConnEnd.{ConnEnd}
 use Rattle.ic_base.specs.declared.keys.ConnKey.{ConnKey}
-use Rattle.ic_base.specs.declared.settings.Settings.{Settings}
 use Rattle.ic_base.specs.declared.datagram.Datagram.{Datagram}
 use Rattle.ic_base.specs.Keys.{key_eq}
 use Rattle.ic_base.proofs.SameKeys.{key_eq-same}
-use Rattle.ic_header.specs.declared.flags.Flags.{Flags}
 use Rattle.ic_expire.specs.declared.item.Item.{Item}
 use Rattle.ic_expire.specs.Items.{is_of, is_upto}
-use Rattle.ic_expire.specs.Queue.{Queue, without}
+use Rattle.ic_expire.specs.Queue.{without}
 use Rattle.ic_expire.proofs.Holding.{rest_holds}
 use Rattle.ic_window.specs.State.{WindowState, grown}
-use Rattle.ic_law.specs.declared.history.HubAsk.TheVariants.{Put, Finish, Arrive}
-use Rattle.ic_law.specs.declared.history.HubReply.{HubReply}
-use Rattle.ic_law.specs.declared.history.HubReply.TheVariants.{Came, Memory}
-use Rattle.ic_law.specs.declared.history.Arrived.TheVariants.{Handled, Dropped}
-use Rattle.ic_law.specs.declared.history.DropCause.TheVariants as cause
+use Rattle.ic_law.specs.declared.history.HubAsk.TheVariants.{Arrive}
+use Rattle.ic_law.specs.declared.history.HubReply.TheVariants.{Came}
+use Rattle.ic_law.specs.declared.history.Arrived.TheVariants.{Handled}
 use Rattle.ic_law.specs.declared.history.Entry.{Entry}
-use Rattle.ic_law.specs.Packets.{Packet, RowPacket, packet_of, key_of, goes_forth, row_datagram}
-use Rattle.ic_law.specs.History.{emits, rows_in, rows_emitted_of, number_of, hears, heard_of, answer_in, answer_read, is_stop, stopped_of, IsStopped, run_heard, run_told, consumed_heard, consumed_told, greatest, sent_upto}
-use Rattle.ic_law.specs.Filling.{Sealed, filling, filling_of, sealed_of}
-use Rattle.ic_law.specs.Points.{Every, SentUpto, IsDirected}
-use Rattle.ic_law.specs.Sending.{AnswersHeard, Refuses, IsStrayBy, IsStray}
-use Rattle.ic_law.specs.Sending.AnswersHeard.{Unheard, Strayed, Heard}
-use Rattle.ic_law.specs.Emission.{Timer, Asked, Timing, timing_of, moved, heard_then, timing_heard, freed_by, kept_timers, names_its_number, listed_by, listed_of, listed_then, asked_later, again_numbers, clock_of, wait_in, row_at, rows_at, numbers_behind, ticks_by, queries_in, IsSoon}
-use Rattle.ic_law.specs.Emission.{named as named_in, marked as marked_in, is_among as stands_among, freed_window as freed_in, sample_by as sample_in, lost_where, timer_of}
-use Rattle.ic_law.proofs.Lists.{Contains-none, Contains-map, map-Contains, map-append, head_or_tail}
-use Rattle.ic_law.proofs.Readings.{run_heard-push, consumed_heard-push, stopped_of-push}
-use Rattle.ic_sender.specs.declared.send_no.SendNo.{SendNo}
-use Rattle.ic_sender.specs.declared.send_no.SendNo.TheVariants as refused
+use Rattle.ic_law.specs.Packets.{Packet, packet_of, key_of, goes_forth}
+use Rattle.ic_law.specs.History.{number_of, hears, answer_read, is_stop, run_heard, run_told, consumed_told}
+use Rattle.ic_law.specs.Filling.{Sealed}
+use Rattle.ic_law.specs.Emission.{Timer, Asked, Timing, timing_heard, names_its_number, listed_by, asked_later, clock_of, numbers_behind, IsSoon}
+use Rattle.ic_law.specs.Emission.{named as named_in, marked as marked_in, is_among as stands_among, sample_by as sample_in, lost_where, timer_of}
+use Rattle.ic_law.proofs.Lists.{Contains-none, Contains-map, head_or_tail}
 use Rattle.ic_sender.specs.declared.flight.Flight.{Flight}
-use Rattle.ic_sender.specs.Sending.{Sending, Answer, row_of, kept_at, run_with, freed_window, freeing, is_it, is_among, named, marked, copies, lost_with, resending, hearing, datagrams_again, datagrams_next, rows_next, emitting, waits_next, halting, flight_at, sample_by}
-use Rattle.ic_sender.specs.Calls.{Hears}
-use Rattle.ic_sender.specs.Entries.{IsNothingOf, came_of, IsHearing}
-use Rattle.ic_sender.specs.Standing.{Waits, Alike, item_of, Reads, Mirrors, Runs, Reflects, KeepsSending, Stands, StandsOn}
-use Rattle.ic_sender.proofs.Lists.{in_behind, behind_has, behind_above, lt_yes, lt_of, not_lt_of, map_filter, map_map, map_self, map_same, in_filter, filter_has, find_filter, same_number}
-use Rattle.ic_sender.proofs.Sent.{AreSealed, greatest_sent}
-use Rattle.ic_sender.proofs.Pairs.{alike_in, alike_filter, alike_map, Found, alike_find, waits_find, copies_are, lost_same, sample_same, HasLeast, least_grown, least_lost_with, least_sampled}
-use Rattle.ic_sender.proofs.Emitting.{Ready, waits_soon}
-use Rattle.ic_sender.proofs.Passing.{entry_is, keeps_law, chunks_stay, finished_stays, sealed_stays, stopped_stays, clock_stays, EmitsRows, PassesStopped, reflects_stopped, stopped_due}
-use Rattle.ic_sender.proofs.Going.{goes_out, stands_out, stays, stays_stopped}
+use Rattle.ic_sender.specs.Sending.{Sending, Answer, row_of, run_with, freed_window, is_it, is_among, named, marked, copies, lost_with, hearing, flight_at, sample_by}
+use Rattle.ic_sender.specs.Standing.{Waits, Alike, item_of, Mirrors}
+use Rattle.ic_sender.proofs.Lists.{behind_above, lt_yes, lt_of, map_filter, map_map, map_same, in_filter, filter_has, find_filter, same_number}
+use Rattle.ic_sender.proofs.Pairs.{alike_in, alike_filter, alike_map, lost_same, sample_same, HasLeast, least_grown, least_lost_with, least_sampled}
+use Rattle.ic_sender.proofs.Emitting.{waits_soon}
 
 -- what a packet tells, if it is an answer and no stop
 pub record IsAnswerOf (p : Packet) (a : Answer) : Type 0 where

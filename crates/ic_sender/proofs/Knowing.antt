@@ -1,26 +1,22 @@
 -- What follows for a connection that stands for a history.
-use Rattle.std.proofs.Common.{◌≡◌, ◌≢◌, ℕ, zero, suc, ◌+◌, ◌-◌, ◌<◌, ◌≤◌, min, List, [], ◌∷◌, ◌++◌, length, map, Bool, true, false, cond, ◌&&◌, Option, Some, None, refl, ap, sym, ◌∙◌, subst, arith, inl, inr, ◌⊎◌, slice_get}
+use Rattle.std.proofs.Common.{◌≡◌, ℕ, zero, suc, ◌+◌, ◌-◌, ◌<◌, ◌≤◌, min, List, [], ◌∷◌, ◌++◌, length, map, Bool, true, false, cond, ◌&&◌, Option, Some, None, refl, ap, sym, ◌∙◌, subst, arith, inl, inr, slice_get}
 use Rattle.std.specs.Prelude.{nat_lt, nat_le}
 use Rattle.std.specs.List.{Contains}
-use Rattle.std.specs.Option.{option_map}
 use Rattle.std.proofs.lemmas.Bool.{cases_Bool, le-leb}
-use Rattle.ic_base.specs.declared.keys.ConnKey.{ConnKey}
-use Rattle.ic_base.specs.declared.keys.ConnEnd.{ConnEnd}
 use Rattle.ic_expire.specs.declared.item.Item.{Item}
 use Rattle.ic_expire.specs.Queue.{held_of}
 use Rattle.ic_window.specs.Window.{room_of}
 use Rattle.ic_law.specs.declared.history.Entry.{Entry}
-use Rattle.ic_law.specs.Packets.{RowPacket}
-use Rattle.ic_law.specs.History.{rows_emitted_of, number_of, sent_upto, finished_of, stopped_of, run_heard, IsStopped}
+use Rattle.ic_law.specs.History.{rows_emitted_of, number_of, sent_upto, finished_of, stopped_of}
 use Rattle.ic_law.specs.Filling.{Sealed, plain, final, filling_of, sealed, sealed_of}
-use Rattle.ic_law.specs.Points.{Every, SentUpto, IsAcknowledged}
-use Rattle.ic_law.specs.Emission.{Timer, Asked, Timing, timing_of, clock_of, standing, numbers_behind, IsSoon, IsArmed}
-use Rattle.ic_law.proofs.Lists.{Contains-none, Contains-head, Contains-tail, head_or_tail, Contains-map, map-Contains}
+use Rattle.ic_law.specs.Points.{IsAcknowledged}
+use Rattle.ic_law.specs.Emission.{Timer, Asked, Timing, timing_of, clock_of, standing, IsArmed}
+use Rattle.ic_law.proofs.Lists.{Contains-none, head_or_tail, Contains-map, map-Contains}
 use Rattle.ic_sender.specs.declared.flight.Flight.{Flight}
-use Rattle.ic_sender.specs.Sending.{Sending, capacity, asked_next}
-use Rattle.ic_sender.specs.Standing.{Waits, Alike, item_of, Mirrors, Runs, Reflects, Stands, dues_held, query_at, IsOver, IsOverIn}
+use Rattle.ic_sender.specs.Sending.{Sending, capacity}
+use Rattle.ic_sender.specs.Standing.{Waits, Alike, item_of, Mirrors, Reflects, Stands, dues_held, query_at, IsOver, IsOverIn}
 use Rattle.ic_sender.proofs.Lists.{behind_has, lt_yes, not_lt, length-map, length-behind}
-use Rattle.ic_sender.proofs.Sent.{get_within, get_end, length-push, greatest_sent}
+use Rattle.ic_sender.proofs.Sent.{get_end, length-push, greatest_sent}
 use Rattle.ic_sender.proofs.Dues.{to_conn, from_conn}
 use Rattle.ic_sender.proofs.Emitting.{alike_weaken}
 

@@ -1,11 +1,11 @@
 -- Lists: numbers that follow each other, what is found by its number, and what is read of two lists alike.
-use Rattle.std.proofs.Common.{◌≡◌, ℕ, zero, suc, ◌+◌, ◌-◌, ◌<◌, ◌≤◌, List, [], ◌∷◌, ◌++◌, length, map, Bool, true, false, cond, ◌==◌, Option, Some, None, refl, ap, sym, ◌∙◌, subst, arith, inl, inr, ◌⊎◌, append_assoc, append-nil}
+use Rattle.std.proofs.Common.{◌≡◌, ℕ, zero, suc, ◌+◌, ◌-◌, ◌<◌, ◌≤◌, List, [], ◌∷◌, ◌++◌, length, map, Bool, true, false, cond, ◌==◌, Option, Some, None, refl, ap, sym, ◌∙◌, subst, arith, inl, inr}
 use Rattle.std.specs.Prelude.{nat_lt, filter, find}
-use Rattle.std.specs.List.{flat_map, Contains, list_any}
-use Rattle.std.proofs.lemmas.Bool.{leb-true, leb-false, le-leb, eqb-true, cases_lt, cases_Bool, ne_eqb}
+use Rattle.std.specs.List.{flat_map, Contains}
+use Rattle.std.proofs.lemmas.Bool.{leb-true, leb-false, le-leb, eqb-true, cases_lt}
 use Rattle.std.proofs.lemmas.Bool.Decides.{Decides-eqb}
 use Rattle.ic_law.specs.Emission.{numbers_behind}
-use Rattle.ic_law.proofs.Lists.{Contains-none, Contains-one, Contains-head, Contains-tail, head_or_tail, Contains-map, map-Contains}
+use Rattle.ic_law.proofs.Lists.{Contains-none, Contains-head, Contains-tail, head_or_tail, Contains-map}
 
 -- ---- numbers behind a number
 

@@ -1,9 +1,8 @@
 -- A connection stays alone in its queue.
-use Rattle.std.proofs.Common.{◌≡◌, ℕ, zero, suc, ◌+◌, ◌-◌, ◌<◌, ◌≤◌, List, [], ◌∷◌, ◌++◌, length, map, ◌==◌, Bool, true, false, cond, Option, Some, None, Result, Ok, Err, refl, ap, sym, ◌∙◌, subst, arith, inl, inr}
+use Rattle.std.proofs.Common.{◌≡◌, ℕ, ◌+◌, ◌-◌, ◌≤◌, List, [], ◌∷◌, ◌++◌, length, map, ◌==◌, Bool, true, false, cond, Option, Some, None, Result, refl, ap, sym, ◌∙◌, subst, arith, inl, inr}
 use Rattle.std.specs.List.{Contains}
-use Rattle.std.specs.Option.{option_map}
 use Rattle.std.specs.Prelude.{filter}
-use Rattle.std.proofs.lemmas.Bool.{eqb-true, le-leb}
+use Rattle.std.proofs.lemmas.Bool.{eqb-true}
 use Rattle.std.proofs.lemmas.List.Elements.{Contains-append_cases}
 use Rattle.ic_base.specs.declared.datagram.Datagram.{Datagram}
 use Rattle.ic_expire.specs.declared.item.Item.{Item}
@@ -12,14 +11,13 @@ use Rattle.ic_expire.specs.Items.{is_due, is_upto}
 use Rattle.ic_expire.specs.Queue.{Queue, IsHeld, IsQueue, with_item, without, dues_of}
 use Rattle.ic_expire.proofs.Holding.{due_takes}
 use Rattle.ic_law.specs.Packets.{RowPacket}
-use Rattle.ic_law.specs.Emission.{Asked, last_tick, numbers_behind, query_due, wait_in}
+use Rattle.ic_law.specs.Emission.{last_tick, numbers_behind, wait_in}
 use Rattle.ic_law.specs.Numbers.{IsIncreasingFrom, last_or}
 use Rattle.ic_law.proofs.Lists.{Contains-none, Contains-one, Contains-head, Contains-tail, head_or_tail, map-Contains}
-use Rattle.ic_law.proofs.Lists.{map-append}
 use Rattle.ic_sender.specs.declared.send_no.SendNo.{SendNo}
-use Rattle.ic_sender.specs.Sending.{Sending, Answer, row_of, kept_at, rows_kept, count_next, rows_next, emitting, waiting, waits_next, fits_opened, sealing, adding, ending, hearing, run_with, halting, spent_of, trying, querying, waits_longer, copies}
-use Rattle.ic_sender.specs.Calls.{IsNow, WaitsAlone, LeavesRoom, NeedsPacket, Puts, Hears, Tries, Queries, is_unanswered}
-use Rattle.ic_sender.proofs.Dues.{increasing_bound, later_item, longer_is}
+use Rattle.ic_sender.specs.Sending.{Sending, Answer, row_of, kept_at, rows_kept, count_next, rows_next, emitting, waiting, waits_next, fits_opened, sealing, adding, ending, hearing, run_with, halting, trying, querying, waits_longer}
+use Rattle.ic_sender.specs.Calls.{IsNow, NeedsPacket, Puts, Hears}
+use Rattle.ic_sender.proofs.Dues.{later_item, longer_is}
 use Rattle.ic_sender.specs.Lone.{IsLone, AreFew}
 use Rattle.ic_sender.proofs.Lists.{in_behind, in_filter, find_same, length-map}
 use Rattle.ic_sender.proofs.Emitting.{waiting_is}

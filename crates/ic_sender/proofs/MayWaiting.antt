@@ -1,8 +1,8 @@
 -- Packets that begin to wait, one after the other.
-use Rattle.std.proofs.Common.{◌≡◌, ℕ, zero, suc, ◌+◌, ◌-◌, ◌<◌, ◌≤◌, List, [], ◌∷◌, ◌++◌, length, map, take, drop, Bool, true, false, not, cond, Option, Some, None, refl, ap, sym, ◌∙◌, subst, arith, slice_index_or, inl, inr, ◌⊎◌}
+use Rattle.std.proofs.Common.{◌≡◌, ℕ, zero, suc, ◌+◌, ◌<◌, ◌≤◌, List, [], ◌∷◌, ◌++◌, length, map, drop, Bool, true, false, not, cond, Option, Some, None, refl, ap, sym, ◌∙◌, subst, arith, slice_index_or, inl, inr}
 use Rattle.std.specs.Prelude.{filter, find}
 use Rattle.std.specs.Ordering.{is_lt}
-use Rattle.std.specs.List.{Contains, flat_map, AllByRecursion}
+use Rattle.std.specs.List.{AllByRecursion}
 use Rattle.ic_base.specs.declared.keys.ConnEnd.{ConnEnd}
 use Rattle.ic_expire.specs.declared.item.Item.{Item}
 use Rattle.ic_expire.specs.Items.{item_cmp}

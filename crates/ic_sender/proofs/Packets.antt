@@ -1,20 +1,18 @@
 -- The packets that a ring keeps, found by their numbers.
-use Rattle.std.proofs.Common.{◌≡◌, ℕ, zero, suc, ◌+◌, ◌-◌, ◌<◌, ◌≤◌, List, [], ◌∷◌, ◌++◌, length, map, Bool, true, false, cond, ◌==◌, Option, Some, None, refl, ap, sym, ◌∙◌, subst, arith, append-nil, append_assoc}
-use Rattle.std.specs.Prelude.{nat_lt, filter, find, IfSome}
-use Rattle.std.specs.List.{Contains, All, flat_map}
+use Rattle.std.proofs.Common.{◌≡◌, ℕ, ◌+◌, ◌≤◌, List, [], ◌∷◌, ◌++◌, length, map, Bool, true, false, cond, ◌==◌, Option, Some, None, refl, ap, sym, ◌∙◌, arith}
+use Rattle.std.specs.Prelude.{find, IfSome}
 use Rattle.std.specs.Option.{option_map}
 use Rattle.std.proofs.lemmas.List.Elements.{All-contains}
 use Rattle.ic_base.specs.declared.keys.ConnEnd.{ConnEnd}
-use Rattle.ic_sendring.specs.Ring.{Ring, IsRing, Kept, Packet, bare, behind, room_of, numbers_from}
+use Rattle.ic_sendring.specs.Ring.{Ring, IsRing, Kept, Packet, bare, room_of}
 use Rattle.ic_sendring.specs.Views.{lent}
 use Rattle.ic_sendring.specs.declared.sealed.Sealed.{Sealed}
 use Rattle.ic_law.specs.Packets.{RowPacket}
 use Rattle.ic_law.specs.Emission.{numbers_behind}
-use Rattle.ic_law.proofs.Lists.{map-append, flat_map-push, Contains-none, head_or_tail, Contains-map}
-use Rattle.ic_sender.specs.declared.flight.Flight.{Flight}
+use Rattle.ic_law.proofs.Lists.{map-append, flat_map-push}
 use Rattle.ic_sender.specs.Sending.{row_of, kept_at, rows_kept, flight_of}
 use Rattle.ic_sender.specs.Views.{row_in, rows_in, newest_of, one_of, with_newest}
-use Rattle.ic_sender.proofs.Lists.{behind-push, find_same, find_none, find_append, find_behind, map_filter, joined_same, in_behind, find_filter, lt_yes}
+use Rattle.ic_sender.proofs.Lists.{behind-push, find_same, find_append, find_behind}
 
 -- what a ring keeps under a number
 abbrev pub ring_at : ℕ → List Kept → Option Kept

@@ -1,20 +1,20 @@
 -- What is on its way, and what the timing has of it, pair by pair.
-use Rattle.std.proofs.Common.{◌≡◌, ℕ, zero, suc, ◌+◌, ◌-◌, ◌<◌, ◌≤◌, List, [], ◌∷◌, ◌++◌, length, map, Bool, true, false, cond, ◌||◌, ◌==◌, Option, Some, None, refl, ap, sym, ◌∙◌, subst, arith, inl, inr, ◌⊎◌, slice_get}
-use Rattle.std.specs.Prelude.{filter, find}
-use Rattle.std.specs.List.{flat_map, Contains, list_any}
-use Rattle.std.proofs.lemmas.Bool.{eqb-true, cases_Bool}
+use Rattle.std.proofs.Common.{◌≡◌, ℕ, zero, suc, ◌-◌, ◌≤◌, List, [], ◌∷◌, ◌++◌, map, Bool, true, false, cond, ◌||◌, ◌==◌, Option, Some, None, refl, ap, sym, ◌∙◌, subst, arith, slice_get}
+use Rattle.std.specs.Prelude.{filter}
+use Rattle.std.specs.List.{Contains}
+use Rattle.std.proofs.lemmas.Bool.{eqb-true}
 use Rattle.ic_base.specs.declared.keys.ConnEnd.{ConnEnd}
 use Rattle.ic_base.specs.declared.datagram.Datagram.{Datagram}
 use Rattle.ic_base.specs.declared.settings.Flow.{Flow}
 use Rattle.ic_base.specs.declared.settings.Flow.TheVariants.{Loss, Capacity}
 use Rattle.ic_expire.specs.declared.item.Item.{Item}
 use Rattle.ic_window.specs.State.{WindowState, by_flow, grown, lost, sampled}
-use Rattle.ic_window.specs.Window.{times, widest, wider, halved}
-use Rattle.ic_law.specs.Packets.{RowPacket, row_datagram}
+use Rattle.ic_window.specs.Window.{times, wider, halved}
+use Rattle.ic_law.specs.Packets.{row_datagram}
 use Rattle.ic_law.specs.Filling.{Sealed}
 use Rattle.ic_law.specs.Emission.{Timer, row_at, rows_at, timer_of, lost_where}
 use Rattle.ic_law.specs.Emission.{sample_by as sample_in, is_among as stands_among}
-use Rattle.ic_law.proofs.Lists.{Contains-none, Contains-head, Contains-tail, head_or_tail, map-append}
+use Rattle.ic_law.proofs.Lists.{Contains-head, Contains-tail, map-append}
 use Rattle.ic_sender.specs.declared.flight.Flight.{Flight}
 use Rattle.ic_sender.specs.Sending.{sample_by, flight_at, copy_of, copies, lost_with}
 use Rattle.ic_sender.specs.Standing.{Waits, Alike}

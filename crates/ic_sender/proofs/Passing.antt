@@ -1,6 +1,6 @@
 -- Entries that leave a connection as it is, and what each entry keeps of the law.
-use Rattle.std.proofs.Common.{◌≡◌, ◌≢◌, ℕ, ◌+◌, ◌-◌, ◌<◌, ◌≤◌, min, max, List, [], ◌∷◌, ◌++◌, length, map, Bool, true, false, cond, ◌&&◌, ◌||◌, ◌==◌, Option, Some, None, refl, ap, sym, ◌∙◌, subst, arith, inl, inr, ◌⊎◌, append-nil, slice_get}
-use Rattle.std.specs.Prelude.{nat_lt, nat_le, filter}
+use Rattle.std.proofs.Common.{◌≡◌, ℕ, ◌+◌, ◌-◌, min, max, List, [], ◌∷◌, ◌++◌, map, Bool, true, false, cond, ◌||◌, ◌==◌, Option, Some, None, refl, ap, sym, ◌∙◌, subst, arith, inl, inr, ◌⊎◌, append-nil, slice_get}
+use Rattle.std.specs.Prelude.{filter}
 use Rattle.std.proofs.lemmas.List.Elements.{Contains-append_cases}
 use Rattle.ic_base.specs.Settings.{AreChecked}
 use Rattle.ic_chunk.specs.Assembly.{together}
@@ -13,21 +13,21 @@ use Rattle.ic_expire.specs.declared.item.Item.{Item}
 use Rattle.ic_law.specs.declared.history.Entry.{Entry}
 use Rattle.ic_law.specs.declared.history.HubAsk.{HubAsk}
 use Rattle.ic_law.specs.declared.history.HubReply.{HubReply}
-use Rattle.ic_law.specs.Packets.{Packet, RowPacket, packet_of, row_datagram, query_datagram}
-use Rattle.ic_law.specs.History.{emits, emitted_of, rows_in, rows_emitted_of, number_of, sent_upto, puts, chunks_put_of, finishes, finished_of, hears, heard_of, stopped_of, run_heard, consumed_heard, run_told, consumed_told, greatest, is_stop}
-use Rattle.ic_law.specs.Filling.{Sealed, filling, filling_of, sealed, sealed_of}
+use Rattle.ic_law.specs.Packets.{RowPacket, row_datagram}
+use Rattle.ic_law.specs.History.{emits, emitted_of, rows_in, rows_emitted_of, number_of, sent_upto, puts, chunks_put_of, finishes, finished_of, hears, stopped_of, run_heard, consumed_heard, run_told, consumed_told, greatest, is_stop}
+use Rattle.ic_law.specs.Filling.{Sealed, filling, sealed, sealed_of}
 use Rattle.ic_law.specs.Points.{Every, SameAgain, Sends, SentUpto, IsHere}
 use Rattle.ic_law.specs.Sending.{Refuses}
-use Rattle.ic_law.specs.Emission.{Timer, Asked, Timing, timing_of, next_timing, settled, timing_ticked, emitted_numbers, has_no_try, heard_then, moved, clock_of, wait_in, last_tick, ticks_by, ticks_of, rows_at, numbers_behind, rows_then, again_numbers, listed_then, due_numbers, queries_in, queries_then, query_due, spent_timers, spent_query, NoneSpent, EmitsDue}
+use Rattle.ic_law.specs.Emission.{Asked, Timing, timing_of, settled, timing_ticked, emitted_numbers, has_no_try, heard_then, moved, clock_of, wait_in, last_tick, ticks_by, ticks_of, rows_at, numbers_behind, rows_then, again_numbers, listed_then, due_numbers, queries_in, queries_then, query_due, spent_query, NoneSpent, EmitsDue}
 use Rattle.ic_law.proofs.Lists.{Contains-none, flat_map-Contains, Contains-head}
-use Rattle.ic_law.proofs.Readings.{every_push, emitted_of-push, rows_emitted_of-push, chunks_put_of-push, finished_of-push, heard_of-push, stopped_of-push, run_heard-push, consumed_heard-push}
+use Rattle.ic_law.proofs.Readings.{every_push, emitted_of-push, rows_emitted_of-push, chunks_put_of-push, finished_of-push, stopped_of-push, run_heard-push, consumed_heard-push}
 use Rattle.ic_law.proofs.Timings.{timing_of-push, ticks_of-push}
 use Rattle.ic_sender.specs.declared.flight.Flight.{Flight}
 use Rattle.ic_sender.specs.Sending.{Sending, rows_kept, count_next, rows_next, flight_of, asked_next, emitting, waits_next, waiting}
 use Rattle.ic_sender.specs.Entries.{IsNothingOf}
-use Rattle.ic_sender.specs.Standing.{IsNamed, Reads, Mirrors, IsSettled, Runs, IsStill, Reflects, KeepsSending, Stands}
+use Rattle.ic_sender.specs.Standing.{IsNamed, Mirrors, IsSettled, IsStill, Reflects, KeepsSending, Stands}
 use Rattle.ic_sender.proofs.Sent.{fills_by}
-use Rattle.ic_sender.proofs.Emitting.{Ready, emits_on, rows_are}
+use Rattle.ic_sender.proofs.Emitting.{Ready}
 
 -- an entry is its ask and its reply
 pub entry_is : (e : Entry) (ask : HubAsk) (reply : HubReply) → e.ask ≡ ask → e.reply ≡ reply → e ≡ record { ask = ask; reply = reply }

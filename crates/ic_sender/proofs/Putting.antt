@@ -1,7 +1,7 @@
 -- A connection on which a chunk, or the end of stream, was put stands for the entry.
-use Rattle.std.proofs.Common.{◌≡◌, ◌≢◌, ℕ, ◌+◌, ◌-◌, ◌<◌, ◌≤◌, ◌^◌, List, [], ◌∷◌, ◌++◌, length, map, Bool, true, false, cond, ◌&&◌, ◌||◌, ◌==◌, Option, Some, None, Result, Ok, Err, refl, ap, sym, ◌∙◌, subst, arith, inl, inr, ◌⊎◌, append-nil, append_assoc, slice_get}
+use Rattle.std.proofs.Common.{◌≡◌, ◌≢◌, ℕ, ◌+◌, ◌-◌, ◌<◌, ◌≤◌, ◌^◌, List, [], ◌∷◌, ◌++◌, length, map, Bool, true, false, cond, ◌&&◌, ◌||◌, ◌==◌, Option, Some, None, Result, Ok, Err, refl, ap, sym, ◌∙◌, subst, arith, inl, inr, append-nil, slice_get}
 use Rattle.std.specs.Prelude.{nat_le}
-use Rattle.std.specs.List.{flat_map, Contains, AllByRecursion}
+use Rattle.std.specs.List.{flat_map, Contains}
 use Rattle.std.proofs.lemmas.Bool.{leb-true, leb-false, cases_lt, cases_Bool}
 use Rattle.ic_base.specs.declared.keys.ConnEnd.{ConnEnd}
 use Rattle.ic_base.specs.declared.keys.ConnKey.{ConnKey}
@@ -21,27 +21,24 @@ use Rattle.ic_law.specs.declared.history.HubReply.TheVariants.{Gave, Memory}
 use Rattle.ic_law.specs.declared.history.HubNo.TheVariants as no
 use Rattle.ic_law.specs.declared.history.Entry.{Entry}
 use Rattle.ic_law.specs.Packets.{RowPacket, row_datagram}
-use Rattle.ic_law.specs.History.{emits, rows_in, rows_emitted_of, number_of, puts, chunks_put_of, finishes, finished_of, hears, was_given, stopped_of, IsStopped, run_heard}
-use Rattle.ic_law.specs.Filling.{Sealed, plain, final, Filling, fits, fill_one, filling, filling_of, sealed, sealed_of, kept_of}
+use Rattle.ic_law.specs.History.{emits, rows_in, rows_emitted_of, number_of, puts, chunks_put_of, finished_of, hears, was_given, IsStopped, run_heard}
+use Rattle.ic_law.specs.Filling.{Sealed, plain, final, Filling, fits, filling, filling_of, sealed, sealed_of, kept_of}
 use Rattle.ic_law.specs.Points.{Every, SentUpto}
-use Rattle.ic_law.specs.Sending.{AnswersPut, Refuses, IsFull, IsTooLong, Fits}
+use Rattle.ic_law.specs.Sending.{AnswersPut, Refuses, Fits}
 use Rattle.ic_law.specs.Sending.AnswersPut.{Given, Full, TooLong, Stopped}
-use Rattle.ic_law.specs.Emission.{Timer, Timing, timing_of, moved, clock_of, row_at, rows_at, numbers_behind, EmitsDue, ticks_by, queries_in}
-use Rattle.ic_law.proofs.Lists.{map-append, Contains-one, Contains-head}
-use Rattle.ic_law.proofs.Packing.{filling-push, full-push}
+use Rattle.ic_law.specs.Emission.{Timing, timing_of, moved, clock_of, row_at, numbers_behind, ticks_by, queries_in}
+use Rattle.ic_law.proofs.Lists.{map-append}
+use Rattle.ic_law.proofs.Packing.{filling-push}
 use Rattle.ic_law.proofs.Readings.{chunks_put_of-push, finished_of-push}
 use Rattle.ic_sender.specs.declared.send_no.SendNo.{SendNo}
-use Rattle.ic_sender.specs.declared.send_no.SendNo.TheVariants as refused
-use Rattle.ic_sender.specs.declared.flight.Flight.{Flight}
-use Rattle.ic_sender.specs.Sending.{Sending, row_of, kept_at, fits_opened, sealing, adding, ending, count_next, rows_next, emitting, datagrams_next, waits_next}
+use Rattle.ic_sender.specs.Sending.{Sending, row_of, kept_at, fits_opened, sealing, adding, ending, emitting, datagrams_next, waits_next}
 use Rattle.ic_sender.specs.Calls.{Puts, NeedsPacket}
 use Rattle.ic_sender.specs.Entries.{IsNothingOf, gave_of, IsPutting, IsFinishing}
-use Rattle.ic_sender.specs.Standing.{Waits, Alike, IsPayload, Reads, Mirrors, Runs, IsStill, Reflects, KeepsSending, Stands, StandsOn}
+use Rattle.ic_sender.specs.Standing.{Waits, IsPayload, Reads, Mirrors, Runs, Reflects, KeepsSending, Stands, StandsOn}
 use Rattle.ic_sender.proofs.Lists.{in_behind, behind_has, behind-push, find_there, find_none, find_append, find_behind, same_number, length-map, length-behind}
-use Rattle.ic_sender.proofs.Sent.{AreSealed, get_within, get_more, get_end, length-push, sent_grow}
-use Rattle.ic_sender.proofs.Carrying.{rows_again, rows_ask_nothing, rows_made}
-use Rattle.ic_sender.proofs.Emitting.{Ready, rows_next-are, rows_travel, next_within, alike_weaken, emits_on, rows_are}
-use Rattle.ic_sender.proofs.Passing.{entry_is, keeps_law, chunks_stay, finished_stays, run_stays, consumed_stays, stopped_stays, clock_stays, moved_not, again_not, settled_stays, settled_rows, settled_waits, stays_ready, EmitsRows, plain_due, emits_nothing, PassesStopped, reflects_stopped, stopped_due}
+use Rattle.ic_sender.proofs.Sent.{get_within, get_more, get_end, length-push, sent_grow}
+use Rattle.ic_sender.proofs.Emitting.{Ready, alike_weaken}
+use Rattle.ic_sender.proofs.Passing.{entry_is, chunks_stay, finished_stays, run_stays, consumed_stays, stopped_stays, clock_stays, moved_not, again_not}
 use Rattle.ic_sender.proofs.Going.{goes_out, stands_out, stays}
 
 -- ---- one packet more

@@ -1,11 +1,11 @@
 -- Packets that are sealed, and those of them that were emitted.
-use Rattle.std.proofs.Common.{◌≡◌, ℕ, zero, suc, ◌+◌, ◌-◌, ◌<◌, ◌≤◌, max, List, [], ◌∷◌, ◌++◌, length, map, Bool, true, false, Option, Some, None, refl, ap, sym, ◌∙◌, subst, arith, inl, inr, ◌⊎◌, append_assoc, append-nil, slice_get}
-use Rattle.std.specs.List.{flat_map, Contains}
+use Rattle.std.proofs.Common.{◌≡◌, ℕ, zero, suc, ◌+◌, ◌-◌, ◌<◌, ◌≤◌, List, [], ◌∷◌, ◌++◌, length, map, Bool, true, false, Option, Some, None, refl, ap, sym, ◌∙◌, subst, arith, inl, inr, ◌⊎◌, append_assoc, append-nil, slice_get}
+use Rattle.std.specs.List.{Contains}
 use Rattle.std.proofs.lemmas.Bool.{cases_lt}
 use Rattle.std.proofs.lemmas.List.Elements.{Contains-append_cases, Contains-append_left, Contains-append_right}
 use Rattle.ic_law.specs.Packets.{RowPacket}
 use Rattle.ic_law.specs.History.{number_of, greatest}
-use Rattle.ic_law.specs.Filling.{Sealed, plain, final, filling, sealed}
+use Rattle.ic_law.specs.Filling.{Sealed, plain, filling, sealed}
 use Rattle.ic_law.specs.Points.{Fills, SentUpto}
 use Rattle.ic_law.specs.Emission.{row_at, rows_at, numbers_behind}
 use Rattle.ic_law.proofs.Lists.{Contains-none, Contains-one, Contains-head, Contains-tail, head_or_tail, cut_at, Contains-map, map-Contains, flat_map-append}

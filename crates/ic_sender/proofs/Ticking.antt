@@ -1,13 +1,12 @@
 -- A connection stands for a tick.
-use Rattle.std.proofs.Common.{◌≡◌, ◌≢◌, ℕ, zero, suc, ◌+◌, ◌-◌, ◌<◌, ◌≤◌, ◌^◌, min, List, [], ◌∷◌, ◌++◌, length, map, Bool, true, false, cond, ◌&&◌, ◌||◌, ◌==◌, Option, Some, None, Ok, Err, refl, ap, sym, ◌∙◌, subst, arith, inl, inr, ◌⊎◌, append-nil}
+use Rattle.std.proofs.Common.{◌≡◌, ℕ, ◌+◌, ◌-◌, ◌<◌, ◌≤◌, ◌^◌, min, List, [], ◌∷◌, ◌++◌, length, map, Bool, true, false, cond, ◌&&◌, ◌||◌, ◌==◌, Option, Some, None, Ok, refl, ap, sym, ◌∙◌, subst, arith, inl, inr, append-nil}
 use Rattle.std.specs.Prelude.{nat_lt, nat_le, filter, find}
 use Rattle.std.specs.List.{flat_map, Contains, list_any}
 use Rattle.std.specs.Option.{option_map}
-use Rattle.std.proofs.lemmas.Bool.{cases_Bool, leb-true, leb-false}
+use Rattle.std.proofs.lemmas.Bool.{cases_Bool, leb-false}
 use Rattle.std.proofs.lemmas.List.Elements.{Contains-append_cases}
 use Rattle.ic_base.specs.declared.keys.ConnEnd.{ConnEnd}
 use Rattle.ic_base.specs.declared.keys.ConnKey.{ConnKey}
-use Rattle.ic_base.specs.declared.settings.Settings.{Settings}
 use Rattle.ic_base.specs.declared.datagram.Datagram.{Datagram}
 use Rattle.ic_chunk.specs.Assembly.{together}
 use Rattle.ic_expire.specs.declared.item.Item.{Item}
@@ -21,28 +20,28 @@ use Rattle.ic_law.specs.declared.history.HubAsk.TheVariants.{Put, Finish, Arrive
 use Rattle.ic_law.specs.declared.history.HubReply.TheVariants.{Ticked}
 use Rattle.ic_law.specs.declared.history.Entry.{Entry}
 use Rattle.ic_law.specs.Packets.{RowPacket, row_datagram, query_datagram}
-use Rattle.ic_law.specs.History.{emits, rows_in, rows_emitted_of, hears, stopped_of, sent_upto, is_stop}
+use Rattle.ic_law.specs.History.{rows_in, rows_emitted_of, hears, stopped_of, sent_upto}
 use Rattle.ic_law.specs.Filling.{Sealed, filling, sealed_of}
 use Rattle.ic_law.specs.Numbers.{IsIncreasingFrom}
 use Rattle.ic_law.specs.Points.{Every, SentUpto}
 use Rattle.ic_law.specs.Sending.{Refuses}
-use Rattle.ic_law.specs.Emission.{Timer, Asked, Timing, timing_of, timing_ticked, moved, lost_where, is_due, due_numbers, asked_again, clock_of, last_tick, ticks_of, ticks_by, wait_in, standing, row_at, rows_at, numbers_behind, again_numbers, queries_in, queries_then, query_due, has_no_try, spent_timers, spent_query, NoneSpent, EmitsDue, IsSoon}
+use Rattle.ic_law.specs.Emission.{Timer, Asked, Timing, timing_of, timing_ticked, lost_where, is_due, due_numbers, asked_again, clock_of, last_tick, ticks_of, wait_in, standing, rows_at, again_numbers, queries_in, queries_then, query_due, has_no_try, spent_timers, spent_query, NoneSpent, EmitsDue, IsSoon}
 use Rattle.ic_law.specs.Emission.{tried as tried_in, is_among as stands_among}
-use Rattle.ic_law.proofs.Lists.{Contains-none, Contains-one, Contains-head, Contains-tail, head_or_tail, Contains-map, map-Contains, flat_map-append, map-append}
+use Rattle.ic_law.proofs.Lists.{Contains-none, Contains-one, Contains-head, Contains-tail, head_or_tail, Contains-map, map-Contains, flat_map-append}
 use Rattle.ic_law.proofs.Readings.{stopped_of-push}
 use Rattle.ic_law.proofs.Timings.{ticks_of-push}
 use Rattle.ic_sender.specs.declared.flight.Flight.{Flight}
-use Rattle.ic_sender.specs.Sending.{Sending, capacity, count_next, rows_next, asked_next, emitting, waits_next, flight_at, copies, lost_with, counted, is_among, spent_of, tried, trying, tries_of, waits_longer, querying}
+use Rattle.ic_sender.specs.Sending.{Sending, capacity, rows_next, emitting, waits_next, flight_at, copies, counted, is_among, spent_of, tried, trying, tries_of, waits_longer}
 use Rattle.ic_sender.specs.Sending.{has_no_try as is_spent_here}
 use Rattle.ic_sender.specs.Calls.{is_unanswered, queries_next, queries_when}
 use Rattle.ic_sender.specs.Entries.{AreAmong, IsTicking, Ticks, tried_when, queried_when}
-use Rattle.ic_sender.specs.Standing.{IsNamed, Waits, Alike, item_of, Reads, Mirrors, IsSettled, Runs, IsStill, Reflects, KeepsSending, Stands}
-use Rattle.ic_sender.proofs.Lists.{same_number, in_behind, map_map, map_same, map_self, find_same, in_filter, filter_has}
-use Rattle.ic_sender.proofs.Sent.{AreSealed, greatest_sent}
+use Rattle.ic_sender.specs.Standing.{IsNamed, Waits, Alike, item_of, Mirrors, IsSettled, Runs, Reflects, KeepsSending, Stands}
+use Rattle.ic_sender.proofs.Lists.{same_number, in_behind, map_map, map_same, map_self, in_filter, filter_has}
+use Rattle.ic_sender.proofs.Sent.{greatest_sent}
 use Rattle.ic_sender.proofs.Carrying.{AllTravel, rows_again, rows_ask_nothing, rows_made, query_again, query_has_no_rows}
 use Rattle.ic_sender.proofs.Emitting.{Ready, rows_travel, emits_on, rows_are, waits_soon}
 use Rattle.ic_sender.proofs.Passing.{entry_is, keeps_law, chunks_stay, finished_stays, sealed_stays, run_stays, consumed_stays, stopped_stays, settled_stays, settled_rows, settled_waits, PassesStopped, reflects_stopped, stopped_due}
-use Rattle.ic_sender.proofs.Pairs.{alike_in, alike_map, Found, waits_find, copies_are, HasLeast, least_lost, lost_waits_one, lost_less_one}
+use Rattle.ic_sender.proofs.Pairs.{alike_in, alike_map, copies_are, HasLeast, least_lost, lost_waits_one, lost_less_one}
 use Rattle.ic_sender.proofs.Hearing.{timer_among, list_any-has}
 use Rattle.ic_sender.proofs.Dues.{alike_seqs, alike_timer, seqs_increase, numbers_due, passes_among, find_itself, to_conn, from_conn, later_item, longer_keeps, longer_has, longer_is}
 

@@ -1,9 +1,9 @@
 -- Loops that write each element of a list, and what is found in a part of one.
-use Rattle.std.proofs.Common.{◌≡◌, ℕ, zero, suc, ◌+◌, ◌-◌, ◌<◌, ◌≤◌, List, [], ◌∷◌, ◌++◌, length, map, take, drop, Bool, true, false, cond, ◌==◌, Option, Some, None, refl, ap, sym, ◌∙◌, subst, arith, slice_set, slice_index_or}
-use Rattle.std.specs.Prelude.{nat_lt, filter, find}
-use Rattle.std.specs.List.{Contains, AllByRecursion}
+use Rattle.std.proofs.Common.{◌≡◌, ℕ, zero, suc, ◌+◌, ◌<◌, ◌≤◌, List, [], ◌∷◌, ◌++◌, length, map, take, drop, true, false, Option, Some, None, refl, ap, sym, ◌∙◌, subst, arith, slice_set, slice_index_or}
+use Rattle.std.specs.Prelude.{nat_lt, filter}
+use Rattle.std.specs.List.{AllByRecursion}
 use Rattle.ic_sender.specs.declared.flight.Flight.{Flight}
-use Rattle.ic_sender.specs.Sending.{flight_at, copy_of}
+use Rattle.ic_sender.specs.Sending.{flight_at}
 use Rattle.ic_sender.proofs.Lists.{find_filter, find_same, in_filter, lt_yes, not_lt}
 
 -- one more element of a list is written

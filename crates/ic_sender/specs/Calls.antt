@@ -1,5 +1,5 @@
 -- What each call answers, and what it leaves.
-use Rattle.std.specs.Prelude.{◌≡◌, ℕ, ◌+◌, ◌-◌, ◌^◌, ◌<◌, ◌≤◌, ◌⊎◌, max, nat_le, nat_lt, if◌then◌else◌, List, [], ◌∷◌, ◌++◌, length, take, Bool, true, false, ◌==◌, ◌&&◌, Option, Some, None, Result, Ok, Err}
+use Rattle.std.specs.Prelude.{◌≡◌, ℕ, ◌+◌, ◌-◌, ◌^◌, ◌<◌, ◌≤◌, ◌⊎◌, nat_le, nat_lt, if◌then◌else◌, List, [], ◌∷◌, ◌++◌, length, take, Bool, true, false, ◌==◌, ◌&&◌, Option, Some, None, Result, Ok, Err}
 use Rattle.std.specs.Int.{w32, from_be_bytes}
 use Rattle.ic_base.specs.declared.datagram.Datagram.{Datagram}
 use Rattle.ic_expire.specs.declared.item.Item.{Item}
@@ -10,7 +10,7 @@ use Rattle.ic_law.specs.Numbers.{words_in, IsIncreasingFrom, last_or}
 use Rattle.ic_law.specs.Emission.{Asked, last_tick, query_due}
 use Rattle.ic_sender.specs.declared.send_no.SendNo.{SendNo}
 use Rattle.ic_sender.specs.declared.send_no.SendNo.TheVariants as refused
-use Rattle.ic_sender.specs.Sending.{Sending, Answer, fits_opened, adding, ending, emitting, datagrams_next, waits_next, run_with, hearing, datagrams_again, halting, spent_of, trying, waits_longer, querying, copies}
+use Rattle.ic_sender.specs.Sending.{Sending, Answer, fits_opened, emitting, datagrams_next, waits_next, run_with, hearing, datagrams_again, spent_of, copies}
 
 -- ---- what each call is given
 

@@ -5,7 +5,7 @@ use Rattle.ic_base.specs.declared.keys.ConnKey.{ConnKey}
 use Rattle.ic_base.specs.declared.keys.ConnEnd.{ConnEnd}
 use Rattle.ic_base.specs.declared.datagram.Datagram.{Datagram}
 use Rattle.ic_header.specs.declared.flags.Flags.{Flags}
-use Rattle.ic_header.specs.declared.flags.Flags.TheVariants.{Stop, Disorder}
+use Rattle.ic_header.specs.declared.flags.Flags.TheVariants.{Disorder}
 use Rattle.ic_expire.specs.Items.{is_due}
 use Rattle.ic_expire.specs.Queue.{dues_of, held_of, without}
 use Rattle.ic_expire.specs.declared.item.Item.{Item}
@@ -20,7 +20,7 @@ use Rattle.ic_law.specs.Packets.{Packet, packet_of, key_of, goes_forth}
 use Rattle.ic_law.specs.History.{emits, rows_in, puts, finishes, hears}
 use Rattle.ic_law.specs.Numbers.{IsIncreasingFrom}
 use Rattle.ic_law.specs.Points.{IsDirected, IsHere}
-use Rattle.ic_law.specs.Emission.{Asked, ticks_by, queries_in, query_due}
+use Rattle.ic_law.specs.Emission.{ticks_by, queries_in, query_due}
 use Rattle.ic_sender.specs.declared.send_no.SendNo.{SendNo}
 use Rattle.ic_sender.specs.declared.send_no.SendNo.TheVariants as refused
 use Rattle.ic_sender.specs.Sending.{Sending, spent_of, trying, waits_longer, querying, copies}

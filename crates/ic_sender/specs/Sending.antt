@@ -1,5 +1,5 @@
 -- A sending connection, and what each event makes of it.
-use Rattle.std.specs.Prelude.{◌≡◌, ◌&&◌, ℕ, ◌+◌, ◌-◌, ◌*◌, ◌^◌, ◌<◌, ◌≤◌, ◌≢◌, min, max, nat_le, nat_lt, List, [], ◌∷◌, ◌++◌, length, map, filter, find, Bool, true, false, ◌==◌, if◌then◌else◌, Option, Some, None, Contains}
+use Rattle.std.specs.Prelude.{◌&&◌, ℕ, ◌+◌, ◌-◌, ◌^◌, min, max, nat_le, nat_lt, List, [], ◌∷◌, ◌++◌, length, map, filter, find, Bool, true, false, ◌==◌, if◌then◌else◌, Option, Some, None}
 use Rattle.std.specs.List.{flat_map, list_any}
 use Rattle.std.specs.Option.{option_map}
 use Rattle.ic_base.specs.declared.keys.ConnEnd.{ConnEnd}
@@ -7,8 +7,7 @@ use Rattle.ic_base.specs.declared.settings.Settings.{Settings}
 use Rattle.ic_base.specs.declared.datagram.Datagram.{Datagram}
 use Rattle.ic_chunk.specs.Chunks.{spelled, end_of_stream}
 use Rattle.ic_expire.specs.declared.item.Item.{Item}
-use Rattle.ic_expire.specs.Items.{is_upto}
-use Rattle.ic_expire.specs.Queue.{without, with_item}
+use Rattle.ic_expire.specs.Queue.{with_item}
 use Rattle.ic_window.specs.State.{WindowState, fresh, grown, lost, sampled}
 use Rattle.ic_window.specs.Window.{room_of}
 use Rattle.ic_law.specs.Packets.{RowPacket, row_datagram}

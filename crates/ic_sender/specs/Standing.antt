@@ -1,5 +1,5 @@
 -- The histories that a sending connection stands for.
-use Rattle.std.specs.Prelude.{◌≡◌, ◌⊎◌, ◌↔◌, ℕ, ◌+◌, ◌-◌, ◌^◌, ◌<◌, ◌≤◌, List, [], ◌∷◌, ◌++◌, length, map, true, false, Option, Some, None, Contains, slice_get}
+use Rattle.std.specs.Prelude.{◌≡◌, ◌⊎◌, ℕ, ◌+◌, ◌-◌, ◌^◌, ◌<◌, ◌≤◌, List, [], ◌∷◌, ◌++◌, length, map, true, false, Option, Some, None, Contains, slice_get}
 use Rattle.std.specs.List.{AllByRecursion}
 use Rattle.std.specs.Option.{option_map}
 use Rattle.ic_base.specs.declared.keys.ConnKey.{ConnKey}
@@ -16,10 +16,10 @@ use Rattle.ic_law.specs.History.{emitted_of, rows_in, rows_emitted_of, number_of
 use Rattle.ic_law.specs.Filling.{Sealed, filling_of, sealed_of}
 use Rattle.ic_law.specs.Points.{Every, SameAgain, SentUpto, Sends, IsHere, IsAcknowledged}
 use Rattle.ic_law.specs.Sending.{Refuses}
-use Rattle.ic_law.specs.Emission.{Timer, Asked, Timing, timing_of, clock_of, row_at, numbers_behind, EmitsDue, IsSoon, IsArmed}
+use Rattle.ic_law.specs.Emission.{Timer, Asked, Timing, timing_of, clock_of, row_at, numbers_behind, EmitsDue, IsSoon}
 use Rattle.ic_sender.specs.declared.flight.Flight.{Flight}
 use Rattle.ic_sender.specs.Sending.{Sending, row_of, kept_at, count_next, asked_next}
-use Rattle.ic_sender.specs.Entries.{IsBefore, IsSilent}
+use Rattle.ic_sender.specs.Entries.{IsBefore}
 
 -- the names of an end fit the words of headers
 pub record IsNamed (end : ConnEnd) : Type 0 where

@@ -1,4 +1,4 @@
-use Rattle.std.proofs.Common.{◌≡◌, ◌+◌, ◌++◌, map, take, drop, slice_set, slice_index_or, ap, sym, ◌∙◌, arith, subst}
+use Rattle.std.proofs.Common.{◌≡◌, ◌++◌, map, take, drop, slice_set, slice_index_or, ap, sym, ◌∙◌, arith}
 use Rattle.ic_sender.specs.declared.flight.Flight.{Flight}
 use Rattle.ic_sender.specs.Sending.{tried}
 use Rattle.ic_sender.proofs.Writing.{one_written}

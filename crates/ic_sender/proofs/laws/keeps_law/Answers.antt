@@ -1,4 +1,3 @@
-use Rattle.ic_sender.specs.Standing.{Stands}
 use Rattle.ic_sender.proofs.laws.keeps_law.Goals as goal
 
 pub returns : goal.returns

@@ -1,4 +1,4 @@
-use Rattle.std.proofs.Common.{◌≡◌, ◌≤◌, drop}
+use Rattle.std.proofs.Common.{◌≡◌, drop}
 use Rattle.ic_law.specs.Numbers.{IsIncreasingFrom, last_or}
 use Rattle.ic_sender.proofs.listing.last_increasing.Given as goal
 

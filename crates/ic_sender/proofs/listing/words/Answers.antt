@@ -1,6 +1,5 @@
-use Rattle.std.proofs.Common.{◌≡◌, ◌+◌, ◌-◌, ◌*◌, ◌/◌, ◌++◌, ◌∷◌, [], length, drop, ap, sym, ◌∙◌, arith}
-use Rattle.std.specs.Int.{w32, from_be_bytes}
-use Rattle.ic_law.specs.Numbers.{words_in, words_from}
+use Rattle.std.proofs.Common.{◌+◌, ◌-◌, ◌*◌, ◌/◌, ◌++◌, ◌∷◌, [], length, drop, ap, sym, ◌∙◌, arith}
+use Rattle.ic_law.specs.Numbers.{words_from}
 use Rattle.ic_sender.proofs.WordLemmas.{one_word}
 use Rattle.ic_sender.proofs.listing.words.Goals as goal
 

@@ -1,4 +1,4 @@
-use Rattle.std.proofs.Common.{◌≡◌, ◌+◌, ◌++◌, map, ap, sym, ◌∙◌}
+use Rattle.std.proofs.Common.{◌+◌, ◌++◌, map, ap, sym, ◌∙◌}
 use Rattle.ic_sender.specs.Sending.{row_of, kept_at, flight_of}
 use Rattle.ic_sender.specs.Views.{with_newest}
 use Rattle.ic_sender.proofs.Packets.{one_going}

@@ -1,12 +1,11 @@
-use Rattle.std.proofs.Common.{◌≡◌, ◌≤◌, length, ap, sym, ◌∙◌, arith, Option, Some, None, refl}
+use Rattle.std.proofs.Common.{◌≡◌, ◌≤◌, length, ap, sym, ◌∙◌, arith, Option, Some, None}
 use Rattle.std.specs.Prelude.{IfSome, is_some, true, false}
 use Rattle.std.specs.Option.{option_map}
 use Rattle.ic_sendring.specs.declared.sealed.Sealed.{Sealed}
 use Rattle.ic_sendring.specs.Ring.{bare, room_of}
 use Rattle.ic_sendring.specs.Views.{lent}
-use Rattle.ic_law.specs.Packets.{RowPacket}
 use Rattle.ic_sender.specs.Sending.{row_of, kept_at}
-use Rattle.ic_sender.specs.Views.{rows_in, newest_of, one_of, with_newest}
+use Rattle.ic_sender.specs.Views.{newest_of, one_of, with_newest}
 use Rattle.ic_sender.proofs.Packets.{ring_at, lent_is, lent_fits, with_first, with_last}
 use Rattle.ic_sender.proofs.planning.packet_at.Goals as goal
 

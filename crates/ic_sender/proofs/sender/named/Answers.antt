@@ -1,4 +1,4 @@
-use Rattle.std.proofs.Common.{◌≡◌, ℤ, subst}
+use Rattle.std.proofs.Common.{subst}
 use Rattle.ic_law.specs.Packets.{IsSegment}
 use Rattle.ic_sender.proofs.sender.named.Goals as goal
 

@@ -1,4 +1,4 @@
-use Rattle.std.proofs.Common.{◌≡◌, ◌+◌, ◌<◌, ◌∷◌, length, drop, ap, sym, ◌∙◌, arith, subst, slice_index_or}
+use Rattle.std.proofs.Common.{◌≡◌, ◌+◌, drop, ap, sym, ◌∙◌, arith, subst, slice_index_or}
 use Rattle.ic_expire.specs.Queue.{Queue, with_item}
 use Rattle.ic_window.specs.Waiting.{wait_of}
 use Rattle.ic_law.specs.Emission.{wait_in}

@@ -1,10 +1,8 @@
-use Rattle.std.proofs.Common.{◌≡◌, ◌≤◌, ◌+◌, ◌-◌, ◌++◌, [], List, ℕ, length, map, ap, sym, ◌∙◌, arith, subst, append-nil, refl}
+use Rattle.std.proofs.Common.{◌≡◌, ◌≤◌, ◌+◌, ◌++◌, [], List, ℕ, length, map, ap, sym, ◌∙◌, arith, subst, append-nil}
 use Rattle.std.specs.Option.{option_map}
-use Rattle.ic_expire.specs.Queue.{Queue, IsHeld}
-use Rattle.ic_law.specs.Packets.{RowPacket}
 use Rattle.ic_sender.specs.declared.flight.Flight.{Flight}
 use Rattle.ic_sender.specs.Sending.{Sending, waiting}
-use Rattle.ic_sender.specs.Calls.{Gives, IsNow, WaitsAlone, unsent}
+use Rattle.ic_sender.specs.Calls.{Gives, WaitsAlone, unsent}
 use Rattle.ic_sender.specs.Views.{asked_of, rows_in, Plans, MayWait}
 use Rattle.ic_sender.proofs.Ending.{PlansFor, numbers_of, ends, plan_may, due_within, few_joined, asks_few, length-append}
 use Rattle.ic_sender.specs.contracts.sender.Sender.{the_view}

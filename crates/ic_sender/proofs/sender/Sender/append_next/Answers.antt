@@ -1,16 +1,13 @@
-use Rattle.std.proofs.Common.{◌≡◌, ◌≤◌, ◌<◌, ◌+◌, ◌-◌, ◌++◌, [], ◌∷◌, List, ℕ, Bool, true, false, length, map, ap, sym, ◌∙◌, arith, subst, append-nil, refl}
+use Rattle.std.proofs.Common.{◌≡◌, ◌≤◌, ◌+◌, ◌++◌, [], ◌∷◌, List, ℕ, false, length, map, ap, sym, ◌∙◌, arith, subst}
 use Rattle.std.specs.Option.{option_map}
-use Rattle.ic_chunk.specs.Chunks.{spelled, end_of_stream}
-use Rattle.ic_expire.specs.Queue.{Queue, IsHeld}
-use Rattle.ic_sendring.specs.Ring.{Ring, Kept, next_packet, room_of}
+use Rattle.ic_sendring.specs.Ring.{Ring}
 use Rattle.ic_law.specs.Packets.{RowPacket}
-use Rattle.ic_law.proofs.Lists.{map-append}
 use Rattle.ic_sender.specs.declared.flight.Flight.{Flight}
 use Rattle.ic_sender.specs.declared.numbers.Numbers.{Numbers}
-use Rattle.ic_sender.specs.Sending.{Sending, sealing, ending, waiting}
-use Rattle.ic_sender.specs.Calls.{Gives, IsNow, WaitsAlone, unsent}
-use Rattle.ic_sender.specs.Views.{asked_of, rows_in, row_in, Plans, MayWait}
-use Rattle.ic_sender.proofs.Ending.{PlansFor, numbers_of, ends, plan_may, due_within, few_joined, asks_few, length-append, row_sealed, end_length}
+use Rattle.ic_sender.specs.Sending.{Sending, sealing, waiting}
+use Rattle.ic_sender.specs.Calls.{Gives, WaitsAlone, unsent}
+use Rattle.ic_sender.specs.Views.{asked_of, rows_in, Plans, MayWait}
+use Rattle.ic_sender.proofs.Ending.{PlansFor, ends, plan_may, due_within, few_joined, asks_few, row_sealed}
 use Rattle.ic_sender.specs.contracts.sender.Sender.{the_view}
 use Rattle.ic_sender.proofs.sender.Sender.append_next.Goals as goal
 

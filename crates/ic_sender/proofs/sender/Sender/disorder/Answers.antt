@@ -1,4 +1,4 @@
-use Rattle.std.proofs.Common.{◌≡◌, ◌≤◌, ◌-◌, ◌++◌, [], List, ℕ, ap, sym, ◌∙◌, refl, subst, Ok, arith, take}
+use Rattle.std.proofs.Common.{◌≡◌, ◌-◌, List, ℕ, ap, sym, ◌∙◌, refl, subst, Ok, arith, take}
 use Rattle.std.specs.Prelude.{Some}
 use Rattle.std.specs.Int.{w32, from_be_bytes}
 use Rattle.ic_expire.specs.Items.{is_upto}
@@ -6,7 +6,6 @@ use Rattle.ic_expire.specs.Queue.{without}
 use Rattle.ic_law.specs.Numbers.{words_in}
 use Rattle.ic_sender.specs.Sending.{Sending, Answer, hearing, datagrams_again, run_with}
 use Rattle.ic_sender.specs.Calls.{Hears, Gives, IsStrayListing, IsStrayDisorder, missing_of}
-use Rattle.ic_sender.specs.contracts.sender.Sender.{the_view}
 use Rattle.ic_sender.proofs.Answering.{disorder_run}
 use Rattle.ic_sender.proofs.sender.Sender.disorder.Goals as goal
 

@@ -1,11 +1,11 @@
-use Rattle.std.proofs.Common.{◌≡◌, ◌≤◌, ◌<◌, ◌+◌, length, List, ℕ, map, ap, sym, ◌∙◌, refl, subst, arith}
+use Rattle.std.proofs.Common.{◌≡◌, ◌≤◌, ◌<◌, ℕ, sym, subst, arith}
 use Rattle.std.specs.Prelude.{None}
 use Rattle.std.specs.List.{AllByRecursion, Contains}
 use Rattle.ic_chunk.proofs.Lists.{all_by}
 use Rattle.ic_expire.specs.Queue.{IsHeld}
 use Rattle.ic_sender.specs.declared.flight.Flight.{Flight}
-use Rattle.ic_sender.specs.Sending.{Sending, spent_of, tried}
-use Rattle.ic_sender.specs.Views.{MayWait, FewTries}
+use Rattle.ic_sender.specs.Sending.{Sending, spent_of}
+use Rattle.ic_sender.specs.Views.{FewTries}
 use Rattle.ic_sender.proofs.Ending.{few_tried}
 use Rattle.ic_sender.specs.contracts.sender.Sender.{the_view}
 use Rattle.ic_sender.proofs.sender.Sender.due_done.Goals as goal

@@ -1,5 +1,5 @@
-use Rattle.std.proofs.Common.{◌≡◌, ◌++◌, ◌&&◌, ◌==◌, [], ap, sym, ◌∙◌, refl, subst, Ok, Err}
-use Rattle.std.specs.Prelude.{find, Some, None}
+use Rattle.std.proofs.Common.{◌≡◌, ◌++◌, ◌&&◌, ◌==◌, ap, sym, ◌∙◌, refl, subst, Ok, Err}
+use Rattle.std.specs.Prelude.{find}
 use Rattle.std.specs.List.{list_any}
 use Rattle.ic_sender.specs.declared.flight.Flight.{Flight}
 use Rattle.ic_sender.specs.declared.send_no.SendNo.TheVariants as refused

@@ -1,4 +1,4 @@
-use Rattle.std.proofs.Common.{◌≡◌, ap, sym, ◌∙◌, refl, Err}
+use Rattle.std.proofs.Common.{ap, sym, ◌∙◌, refl, Err}
 use Rattle.ic_sender.specs.declared.send_no.SendNo.TheVariants as refused
 use Rattle.ic_sender.specs.Sending.{Sending}
 use Rattle.ic_sender.specs.Calls.{Puts}

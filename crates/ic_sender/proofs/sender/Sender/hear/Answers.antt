@@ -1,8 +1,8 @@
-use Rattle.std.proofs.Common.{◌≡◌, ◌≤◌, ◌<◌, ◌+◌, ◌-◌, ◌++◌, [], ◌∷◌, max, List, ℕ, Bool, true, false, Option, length, map, ap, sym, ◌∙◌, arith, subst, append-nil, refl}
+use Rattle.std.proofs.Common.{◌≡◌, ◌≤◌, ◌+◌, ◌++◌, [], max, List, ℕ, Option, length, map, ap, sym, ◌∙◌, arith, subst, append-nil}
 use Rattle.std.specs.Prelude.{nat_lt, filter}
 use Rattle.std.specs.Option.{option_map}
 use Rattle.ic_expire.specs.Items.{is_upto}
-use Rattle.ic_expire.specs.Queue.{Queue, IsHeld, without}
+use Rattle.ic_expire.specs.Queue.{Queue, without}
 use Rattle.ic_sendring.specs.Ring.{Ring}
 use Rattle.ic_window.specs.State.{WindowState}
 use Rattle.ic_law.specs.Packets.{RowPacket}
@@ -13,10 +13,10 @@ use Rattle.ic_sender.specs.declared.numbers.Numbers.{Numbers}
 use Rattle.ic_sender.specs.declared.planning.Plan.{Plan}
 use Rattle.ic_sender.specs.declared.answers.Answer as declared
 use Rattle.ic_sender.specs.Sending.{Sending, waiting, run_with, hearing, datagrams_again, freed_window, lost_with, copies, marked, named, counted}
-use Rattle.ic_sender.specs.Calls.{Gives, IsNow, WaitsAlone, unsent}
+use Rattle.ic_sender.specs.Calls.{Gives, WaitsAlone, unsent}
 use Rattle.ic_sender.specs.Views.{asked_of, rows_in, Plans, MayWait, told}
 use Rattle.ic_sender.proofs.MayWaiting.{alone_without, length-without}
-use Rattle.ic_sender.proofs.Ending.{PlansFor, numbers_of, ends, plan_may, due_within, few_joined, asks_few, plans_freed, ring_freed, few_heard, later_few}
+use Rattle.ic_sender.proofs.Ending.{PlansFor, ends, plan_may, due_within, few_joined, asks_few, plans_freed, ring_freed, few_heard, later_few}
 use Rattle.ic_sender.specs.contracts.sender.Sender.{the_view}
 use Rattle.ic_sender.proofs.sender.Sender.hear.Goals as goal
 

@@ -1,5 +1,5 @@
-use Rattle.std.proofs.Common.{◌≡◌, ap, sym, ◌∙◌, subst}
-use Rattle.ic_sender.specs.Sending.{Sending, halting}
+use Rattle.std.proofs.Common.{sym, subst}
+use Rattle.ic_sender.specs.Sending.{Sending}
 use Rattle.ic_sender.specs.Standing.{StandsOn}
 use Rattle.ic_sender.specs.Entries.{IsHearing}
 use Rattle.ic_header.specs.declared.flags.Flags.TheVariants.{Stop}
