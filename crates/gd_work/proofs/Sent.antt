@@ -37,6 +37,7 @@ put_off motion to (Put m t chunk) Did off = by ((m == motion) && int_eq t to) re
     on : (a b : Bool) → (a && b) ≡ true → (a ≡ true) × (b ≡ true)
     on true b h = (refl, h)
     on false b h = cc
+
     by : (b : Bool) → ((m == motion) && int_eq t to) ≡ b → cond b (chunk ∷ []) [] ≡ []
     by true is = let w = on (m == motion) (int_eq t to) is in absurd (off ((Decides-eqb m motion).0 w.0, (Decides-int_eq t to).0 w.1))
     by false is = refl
@@ -196,6 +197,7 @@ one_put rows motion to packet chunk left log h =
   where
     is_no_finish : Put motion to chunk ≡ Finish motion to → ⊥
     is_no_finish x = cc
+
     is_no_refusal : Did ≡ Refused Stopped → ⊥
     is_no_refusal x = cc
 

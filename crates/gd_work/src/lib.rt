@@ -13,8 +13,12 @@
 mod course;
 mod cutter;
 mod gatherer;
+mod laws;
 mod scanner;
+#[cfg(test)]
+mod tests;
 
 pub use course::{Course, Turned, WorkNo};
 pub use gatherer::Gatherer;
+pub use laws::{lets_out_all, puts_all};
 pub use scanner::Scanner;
