@@ -2,6 +2,6 @@ mod Numbers
 pub mod Shown
 mod Moving
 mod Came
-mod Taken
-mod Others
+pub mod Taken
+pub mod Others
 mod Made

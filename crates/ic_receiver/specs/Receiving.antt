@@ -81,6 +81,14 @@ pub record IsEmpty (s : Receiving) : Type 0 where
   pub runs : s.ring ≡ Some ring
   pub front : front_of ring ≡ None
 
+-- neither, and the next packet is there
+pub record IsReady (s : Receiving) : Type 0 where
+  pub goes_on : s.whole ≡ false
+  pub ring : Ring
+  pub runs : s.ring ≡ Some ring
+  pub packet : Packet
+  pub front : front_of ring ≡ Some packet
+
 -- the front goes, as a parcel, and Ack has the run's end and the number consumed with it
 pub record HandsFront (end : ConnEnd) (s : Ring) (p : Parcel) (d : Datagram) (after : Ring) : Type 0 where
   pub packet : Packet

@@ -52,6 +52,10 @@ abbrev pub WaitsForNext : Receiving → Type 0
 WaitsForNext s = (settings : Settings) (h : List Entry) → Stands settings s h
     → (IsEnded s.end.key h → ⊥) × ((p : RowPacket) → IsNext s.end.key h p → ⊥)
 
+-- where more is to be taken, the next packet isn't there
+abbrev pub NotReady : Receiving → Type 0
+NotReady s = (settings : Settings) (h : List Entry) → Stands settings s h → (IsEnded s.end.key h → ⊥) → (p : RowPacket) → IsNext s.end.key h p → ⊥
+
 -- more is to be taken, and this is the next of it
 abbrev pub TakesNow : Receiving → Parcel → Datagram → Type 0
 TakesNow s p d = (settings : Settings) (h : List Entry) → Stands settings s h → (IsEnded s.end.key h → ⊥) × IsTaken s.end h p (d ∷ [])

@@ -1,18 +1,18 @@
 // One receiving connection.
-ghost use Rattle.std.specs.Prelude.{◌≡◌, ℕ, ◌↔◌, List, [], ◌∷◌, ◌++◌, true, false, Err, IfOk, OnErr, IsTrue};
+ghost use Rattle.std.specs.Prelude.{◌≡◌, ◌⊎◌, ℕ, ◌↔◌, List, [], ◌∷◌, ◌++◌, true, false, Err, IfOk, OnErr, IsTrue};
 ghost use Rattle.ic_base.specs.Settings.{AreChecked};
 ghost use Rattle.ic_law.specs.declared.history.Entry.{Entry};
 ghost use Rattle.ic_law.specs.declared.history.HubNo.TheVariants as refused;
 ghost use Rattle.ic_law.specs.Points.{IsEnded};
 ghost use Rattle.ic_law.specs.Receiving.{IsTaking};
-ghost use Rattle.ic_receiver.specs.Receiving.{Hears, HearsQuery, IsOver, IsEmpty, HandsOver, Halts, begun};
+ghost use Rattle.ic_receiver.specs.Receiving.{Hears, HearsQuery, IsOver, IsEmpty, IsReady, HandsOver, Halts, begun};
 ghost use Rattle.ic_receiver.specs.Entries.{IsHearing, IsQuerying, IsRefusing, IsHalting};
-ghost use Rattle.ic_receiver.specs.Standing.{Stands, StandsOn, IsUntouched, TakesNoMore, WaitsForNext, TakesNow};
+ghost use Rattle.ic_receiver.specs.Standing.{Stands, StandsOn, IsUntouched, TakesNoMore, WaitsForNext, NotReady, TakesNow};
 
 use crate::answer::answer;
 use crate::hearing::{hand_over, hear};
 use crate::take_no::TakeNo;
-use ic_base::{ConnEnd, Datagram, Parcel, Settings};
+use ic_base::{ConnEnd, Datagram, Parcel, SegId, Settings};
 use ic_header::Flags;
 use ic_recvring::RecvRing;
 use std::alloc::{AllocError, Global};
@@ -69,6 +69,32 @@ impl Receiver {
         ensures runs { result ≡ false → (settings : _) (h : List Entry) → Stands settings self.now h → IsEnded self.now.end.key h → ⊥ }
     {
         self.whole || self.ring.is_none()
+    }
+
+    /// The segment that sends the rows.
+    pub fn from(&self) -> SegId
+        ensures { result ≡ self.now.end.key.from }
+    {
+        self.end.key.from
+    }
+
+    fn looks_ready(&self) -> bool
+        ensures ready { result ≡ true → IsReady self.now }
+        ensures waits { result ≡ false → IsEmpty self.now ⊎ IsOver self.now }
+    {
+        match &self.ring {
+            Some(ring) => !self.whole && ring.front().is_some(),
+            None => false,
+        }
+    }
+
+    /// Whether a take would hand a parcel over.
+    pub fn is_ready(&self) -> bool
+        ensures ready { result ≡ true → IsReady self.now }
+        ensures waits { result ≡ false → IsEmpty self.now ⊎ IsOver self.now }
+        ensures none { result ≡ false → NotReady self.now }
+    {
+        self.looks_ready()
     }
 
     fn hear(
