@@ -358,6 +358,7 @@ hub_without s table query q l is here number =
       ascend = ascend_without s.live q is.ascend;
       each = all_without (IsOfHub (place_in s) s.tick) s.live q is.each;
       checked = is.checked;
+      last = is.last;
     }
 
 -- the table takes the query out, since it is live there
