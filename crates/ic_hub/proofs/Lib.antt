@@ -6,6 +6,7 @@ pub mod Moving
 pub mod Receivers
 pub mod Taking
 pub mod Beginning
+pub mod Begun
 pub mod Putting
 pub mod Leaving
 pub mod Choosing

@@ -1,13 +1,13 @@
 -- A query as it begins.
-use Rattle.std.specs.Prelude.{◌≡◌, ℕ, List, map, length, true, false, Option, None}
-use Rattle.std.specs.List.{AllByRecursion}
+use Rattle.std.specs.Prelude.{◌≡◌, ℕ, List, [], ◌∷◌, length, replicate, true, false, if◌then◌else◌, None}
+use Rattle.std.specs.List.{AllByRecursion, flat_map}
 use Rattle.ic_base.specs.declared.keys.ConnEnd.{ConnEnd}
 use Rattle.ic_base.specs.declared.settings.Settings.{Settings}
 use Rattle.ic_law.specs.declared.history.Entry.{Entry}
 use Rattle.ic_law.specs.Packets.{IsSegment}
 use Rattle.ic_outgoing.specs.Outgoing.{OutgoingState, begun_at}
 use Rattle.ic_outgoing.specs.Standing.{StandsFirst}
-use Rattle.ic_places.specs.Ends.{sending_ends, receiving_ends, motions_of}
+use Rattle.ic_places.specs.Ends.{motions_of}
 use Rattle.ic_receiver.specs.Receiving.{Receiving, begun}
 use Rattle.ic_receiver.specs.Standing.{IsUntouched, Stands}
 use Rattle.ic_hub.specs.Hubbing.{Living}
@@ -29,23 +29,22 @@ ReceivesFirst settings end = end.sending ≡ false → (h : List Entry) → IsUn
 
 -- ---- connections
 
--- the connections of the sending ends
-abbrev pub senders_begun : Settings → ℕ → List ConnEnd → List OutgoingState
-senders_begun settings tick ends = map (λ (e : ConnEnd). begun_at e settings tick) (sending_ends ends)
+-- the connection of an end that sends
+abbrev pub sender_begun : Settings → ℕ → ConnEnd → List OutgoingState
+sender_begun settings tick end = if end.sending then begun_at end settings tick ∷ [] else []
 
--- those of the receiving ends
-abbrev pub receivers_begun : Settings → List ConnEnd → List Receiving
-receivers_begun settings ends = map (λ (e : ConnEnd). begun e settings) (receiving_ends ends)
+-- the connection of an end that receives
+abbrev pub receiver_begun : Settings → ConnEnd → List Receiving
+receiver_begun settings end = if end.sending then [] else begun end settings ∷ []
 
 -- The query of this number with these ends, of whose connections nothing was put and nothing came, and of whose motions
 -- no sender was served.
 pub record IsBegun (settings : Settings) (tick number : ℕ) (ends : List ConnEnd) (l : Living) : Type 0 where
   pub number_is : l.number ≡ number
   pub ends_are : l.ends ≡ ends
-  pub senders : l.senders ≡ senders_begun settings tick ends
-  pub receivers : l.receivers ≡ receivers_begun settings ends
-  pub served : length l.served ≡ length (motions_of ends)
-  pub unserved : AllByRecursion (λ o. o ≡ None) l.served
+  pub senders : l.senders ≡ flat_map (sender_begun settings tick) ends
+  pub receivers : l.receivers ≡ flat_map (receiver_begun settings) ends
+  pub served : l.served ≡ replicate (length (motions_of ends)) None
   pub sends : AllByRecursion (SendsFirst settings tick) ends
   pub receives : AllByRecursion (ReceivesFirst settings) ends
   pub between : AllByRecursion IsBetween ends

@@ -1,6 +1,6 @@
 // Queries that begin.
-ghost use Rattle.std.specs.Prelude.{◌≡◌, ◌≤◌, ◌<◌, ◌++◌, [], ◌∷◌, List, None, length, take, drop, vec_len, vec_capacity, OnErr, OnOk, IfOk};
-ghost use Rattle.std.specs.List.{AllByRecursion};
+ghost use Rattle.std.specs.Prelude.{◌≡◌, ◌≤◌, ◌<◌, ◌++◌, [], ◌∷◌, List, None, length, take, drop, vec_len, vec_capacity, replicate, OnErr, OnOk, IfOk};
+ghost use Rattle.std.specs.List.{AllByRecursion, flat_map};
 ghost use Rattle.ic_base.specs.Settings.{AreChecked};
 ghost use Rattle.ic_law.specs.declared.history.Entry.{Entry};
 ghost use Rattle.ic_law.specs.Asking.{AreEnds};
@@ -9,7 +9,7 @@ ghost use Rattle.ic_hub.specs.Hubbing.{Ascend, place_in};
 ghost use Rattle.ic_hub.specs.Entries.{begin_entry};
 ghost use Rattle.ic_hub.specs.Standing.{Stands};
 ghost use Rattle.ic_hub.specs.Calls.{SamePlace};
-ghost use Rattle.ic_hub.specs.Beginning.{IsBetween, SendsFirst, ReceivesFirst, senders_begun, receivers_begun, IsBegun};
+ghost use Rattle.ic_hub.specs.Beginning.{IsBetween, SendsFirst, ReceivesFirst, sender_begun, receiver_begun, IsBegun};
 
 use crate::hub::Hub;
 use crate::query::Query;
@@ -37,7 +37,7 @@ fn add_sender(
 ) -> Result<(), AllocError>
     requires checked { AreChecked settings.now }
     requires last { tick ≤ last_tick }
-    ensures begun { OnOk result (senders.new.items ≡ senders.old.items ++ senders_begun settings.now tick (end.now ∷ [])) }
+    ensures begun { OnOk result (senders.new.items ≡ senders.old.items ++ sender_begun settings.now tick end.now) }
     ensures sends { OnOk result (SendsFirst settings.now tick end.now) }
     ensures between { IsBetween end.now }
 {
@@ -58,7 +58,7 @@ fn add_receiver(
     settings: &Settings,
 ) -> Result<(), AllocError>
     requires checked { AreChecked settings.now }
-    ensures begun { OnOk result (receivers.new.items ≡ receivers.old.items ++ receivers_begun settings.now (end.now ∷ [])) }
+    ensures begun { OnOk result (receivers.new.items ≡ receivers.old.items ++ receiver_begun settings.now end.now) }
     ensures receives { OnOk result (ReceivesFirst settings.now end.now) }
 {
     if end.sending {
@@ -78,7 +78,7 @@ fn senders(
 ) -> Result<Vec<Outgoing>, AllocError>
     requires checked { AreChecked settings.now }
     requires last { tick ≤ last_tick }
-    ensures begun { IfOk result (λ v. v.items ≡ senders_begun settings.now tick ends.now) }
+    ensures begun { IfOk result (λ v. v.items ≡ flat_map (sender_begun settings.now tick) ends.now) }
     ensures sends { OnOk result (AllByRecursion (SendsFirst settings.now tick) ends.now) }
     ensures between { OnOk result (AllByRecursion IsBetween ends.now) }
 {
@@ -96,7 +96,7 @@ fn receivers(
     settings: &Settings,
 ) -> Result<Vec<Receiver>, AllocError>
     requires checked { AreChecked settings.now }
-    ensures begun { IfOk result (λ v. v.items ≡ receivers_begun settings.now ends.now) }
+    ensures begun { IfOk result (λ v. v.items ≡ flat_map (receiver_begun settings.now) ends.now) }
     ensures receives { OnOk result (AllByRecursion (ReceivesFirst settings.now) ends.now) }
 {
     let mut receivers = Vec::new(alloc);
@@ -108,8 +108,7 @@ fn receivers(
 
 /// No sender served, for each of so many motions.
 fn unserved(alloc: Global, motions: usize) -> Result<Vec<Option<SegId>>, AllocError>
-    ensures count { IfOk result (λ v. length v.items ≡ motions) }
-    ensures none { IfOk result (λ v. AllByRecursion (λ o. o ≡ None) v.items) }
+    ensures { IfOk result (λ v. v.items ≡ replicate motions None) }
 {
     let mut served = Vec::new(alloc);
     for _ in 0..motions {

@@ -1,20 +1,19 @@
-use Rattle.std.proofs.Common.{rules, ◌≡◌, ◌≤◌, ◌<◌, ◌++◌, [], ◌∷◌, List, None, length, take, drop, vec_len, vec_capacity, OnErr, OnOk, IfOk, ℕ, ◌+◌, ◌-◌, ◌*◌, ◌/◌, ◌%◌, Bool, true, false, nat_eq, nat_lt, slice_index_or, slice_set, bit_and, bit_or, Fits, w8, w32, w64, Bor, MutBor}
-use Rattle.std.specs.List.{AllByRecursion}
-use Rattle.ic_base.specs.Settings.{AreChecked}
-use Rattle.ic_law.specs.declared.history.Entry.{Entry}
-use Rattle.ic_law.specs.Asking.{AreEnds}
-use Rattle.ic_law.specs.Emission.{last_tick}
-use Rattle.ic_hub.specs.Hubbing.{Ascend, place_in}
-use Rattle.ic_hub.specs.Entries.{begin_entry}
-use Rattle.ic_hub.specs.Standing.{Stands}
-use Rattle.ic_hub.specs.Calls.{SamePlace}
-use Rattle.ic_hub.specs.Beginning.{IsBetween, SendsFirst, ReceivesFirst, senders_begun, receivers_begun, IsBegun}
+use Rattle.std.proofs.Common.{rules, Bool, nat_lt}
+use Rattle.std.proofs.lemmas.List.Sorted.{IsPartitionPoint-from_clause, IsPartitionedBy-ltb}
+use Rattle.ic_hub.specs.Hubbing.{Living}
+use Rattle.ic_hub.proofs.Beginning.{rise, front_less, back_more}
 use Rattle.ic_hub.proofs.begin.place_for.Goals as goal
 
--- src/begin.rt:122:1
 pub returns-clause-before : goal.returns-clause-before
-returns-clause-before c = ?
+returns-clause-before c =
+    let test : Living → Bool = λ (l : Living). nat_lt l.number c.args.number in
+    let parted = IsPartitionedBy-ltb (λ (l : Living). l.number) c.args.live.now c.args.number (λ i j d le within. rise c.args.live.now c.requires i j d le within) in
+    let point = IsPartitionPoint-from_clause test _ _ c.partition_point.ensures.partitioned parted (λ a r q k. search rules) in
+    front_less c.args.live.now c.args.number c.partition_point.result c.partition_point.ensures.bound point.0
 
--- src/begin.rt:122:1
 pub returns-clause-behind : goal.returns-clause-behind
-returns-clause-behind c = ?
+returns-clause-behind c =
+    let test : Living → Bool = λ (l : Living). nat_lt l.number c.args.number in
+    let parted = IsPartitionedBy-ltb (λ (l : Living). l.number) c.args.live.now c.args.number (λ i j d le within. rise c.args.live.now c.requires i j d le within) in
+    let point = IsPartitionPoint-from_clause test _ _ c.partition_point.ensures.partitioned parted (λ a r q k. search rules) in
+    back_more c.args.live.now c.args.number c.partition_point.result c.partition_point.ensures.bound point.1

@@ -1,28 +1,16 @@
-use Rattle.std.proofs.Common.{rules, ◌≡◌, ◌≤◌, ◌<◌, ◌++◌, [], ◌∷◌, List, None, length, take, drop, vec_len, vec_capacity, OnErr, OnOk, IfOk, ℕ, ◌+◌, ◌-◌, ◌*◌, ◌/◌, ◌%◌, Bool, true, false, nat_eq, nat_lt, slice_index_or, slice_set, bit_and, bit_or, Fits, w8, w32, w64, Bor, MutBor}
-use Rattle.std.specs.List.{AllByRecursion}
-use Rattle.ic_base.specs.Settings.{AreChecked}
-use Rattle.ic_law.specs.declared.history.Entry.{Entry}
-use Rattle.ic_law.specs.Asking.{AreEnds}
-use Rattle.ic_law.specs.Emission.{last_tick}
-use Rattle.ic_hub.specs.Hubbing.{Ascend, place_in}
-use Rattle.ic_hub.specs.Entries.{begin_entry}
-use Rattle.ic_hub.specs.Standing.{Stands}
-use Rattle.ic_hub.specs.Calls.{SamePlace}
-use Rattle.ic_hub.specs.Beginning.{IsBetween, SendsFirst, ReceivesFirst, senders_begun, receivers_begun, IsBegun}
+use Rattle.std.proofs.Common.{◌≡◌, ◌+◌, ◌++◌, suc, refl, ap, sym, ◌∙◌, arith}
+use Rattle.std.proofs.lemmas.Option.{slice_get_read}
+use Rattle.ic_hub.specs.Beginning.{ReceivesFirst, receiver_begun}
+use Rattle.ic_hub.proofs.Beginning.{flat_more, all_more}
 use Rattle.ic_hub.proofs.begin.receivers.Goals as goal
 
--- src/begin.rt:103:5
-pub loop-end-init : goal.loop-end-init
-loop-end-init c = ?
-
--- src/begin.rt:103:5
 pub loop-end-preserved : goal.loop-end-preserved
-loop-end-preserved c = ?
-
--- src/begin.rt:93:1
-pub returns-clause-begun : goal.returns-clause-begun
-returns-clause-begun c = ?
-
--- src/begin.rt:93:1
-pub returns-clause-receives : goal.returns-clause-receives
-returns-clause-receives c = ?
+loop-end-preserved c =
+    let xs = c.args.ends.now in
+    let at = slice_get_read xs _ c.loop-end.end-index c.end-item.result refl (omega arith) c.end-item.is in
+    let next : c.loop-end.end-index + 1 ≡ suc c.loop-end.end-index = omega arith in
+    record {
+      begun = c.in_ok-add_receiver.ensures.begun ∙ ap (λ rs. rs ++ receiver_begun c.args.settings.now c.end-item.result) c.loop-end.invariant.begun
+          ∙ sym (flat_more (receiver_begun c.args.settings.now) xs c.loop-end.end-index (c.loop-end.end-index + 1) c.end-item.result next at);
+      receives = all_more (ReceivesFirst c.args.settings.now) xs c.loop-end.end-index (c.loop-end.end-index + 1) c.end-item.result next at c.loop-end.invariant.receives c.in_ok-add_receiver.ensures.receives;
+    }

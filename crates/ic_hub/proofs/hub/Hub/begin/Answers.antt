@@ -1,32 +1,69 @@
-use Rattle.std.proofs.Common.{rules, ◌≡◌, ◌≤◌, ◌<◌, ◌++◌, [], ◌∷◌, List, None, length, take, drop, vec_len, vec_capacity, OnErr, OnOk, IfOk, ℕ, ◌+◌, ◌-◌, ◌*◌, ◌/◌, ◌%◌, Bool, true, false, nat_eq, nat_lt, slice_index_or, slice_set, bit_and, bit_or, Fits, w8, w32, w64, Bor, MutBor}
-use Rattle.std.specs.List.{AllByRecursion}
-use Rattle.ic_base.specs.Settings.{AreChecked}
-use Rattle.ic_law.specs.declared.history.Entry.{Entry}
+use Rattle.std.proofs.Common.{◌++◌, [], ◌∷◌, Err, ap, sym, ◌∙◌, subst}
+use Rattle.ic_base.specs.declared.keys.BeginNo.TheVariants.{Memory}
+use Rattle.ic_conntab.specs.Table.{Table}
+use Rattle.ic_places.specs.Ends.{keys_of}
 use Rattle.ic_law.specs.Asking.{AreEnds}
-use Rattle.ic_law.specs.Emission.{last_tick}
-use Rattle.ic_hub.specs.Hubbing.{Ascend, place_in}
+use Rattle.ic_hub.specs.Hubbing.{Hubbing, Living, place_in}
 use Rattle.ic_hub.specs.Entries.{begin_entry}
 use Rattle.ic_hub.specs.Standing.{Stands}
-use Rattle.ic_hub.specs.Calls.{SamePlace}
-use Rattle.ic_hub.specs.Beginning.{IsBetween, SendsFirst, ReceivesFirst, senders_begun, receivers_begun, IsBegun}
+use Rattle.ic_hub.proofs.Begun.{refused_stands, refused_memory, Enters, enters_hub, enters_stands}
 use Rattle.ic_hub.proofs.hub.Hub.begin.Goals as goal
 
--- src/begin.rt:178:13
 pub returns-in_default-clause-stands : goal.returns-in_default-clause-stands
-returns-in_default-clause-stands c = ?
+returns-in_default-clause-stands c h stands =
+    let v : Hubbing = record { session = c.self.inside.session; at = c.self.inside.at; settings = c.self.inside.settings; tick = c.self.inside.tick; dropped = c.self.inside.dropped; top = c.self.inside.table.top; live = c.self.inside.live.items } in
+    let are : AreEnds (place_in v) c.args.query c.args.ends.now = subst (λ (s : Hubbing). AreEnds (place_in s) c.args.query c.args.ends.now) (sym c.self.view_is) c.requires.ends in
+    let was : Stands v h = subst (λ (s : Hubbing). Stands s h) (sym c.self.view_is) stands in
+    subst (λ (s : Hubbing). Stands s (h ++ begin_entry c.args.query c.args.ends.now (Err Memory) ∷ [])) c.self.view_is (refused_memory v c.self.inside.table h c.args.query c.args.ends.now c.self.invariant was are)
 
--- src/begin.rt:181:13
 pub returns-in_default-reserve-clause-stands : goal.returns-in_default-reserve-clause-stands
-returns-in_default-reserve-clause-stands c = ?
+returns-in_default-reserve-clause-stands c h stands =
+    let v : Hubbing = record { session = c.self.inside.session; at = c.self.inside.at; settings = c.self.inside.settings; tick = c.self.inside.tick; dropped = c.self.inside.dropped; top = c.self.inside.table.top; live = c.self.inside.live.items } in
+    let are : AreEnds (place_in v) c.args.query c.args.ends.now = subst (λ (s : Hubbing). AreEnds (place_in s) c.args.query c.args.ends.now) (sym c.self.view_is) c.requires.ends in
+    let was : Stands v h = subst (λ (s : Hubbing). Stands s h) (sym c.self.view_is) stands in
+    subst (λ xs. Stands (record v { live = xs }) (h ++ begin_entry c.args.query c.args.ends.now (Err Memory) ∷ [])) (sym c.reserve.ensures.items)
+    (refused_memory v c.self.inside.table h c.args.query c.args.ends.now c.self.invariant was are)
 
--- src/begin.rt:184:13
 pub returns-in-Err-clause-stands : goal.returns-in-Err-clause-stands
-returns-in-Err-clause-stands c = ?
+returns-in-Err-clause-stands c h stands =
+    let v : Hubbing = record { session = c.self.inside.session; at = c.self.inside.at; settings = c.self.inside.settings; tick = c.self.inside.tick; dropped = c.self.inside.dropped; top = c.self.inside.table.top; live = c.self.inside.live.items } in
+    let are : AreEnds (place_in v) c.args.query c.args.ends.now = subst (λ (s : Hubbing). AreEnds (place_in s) c.args.query c.args.ends.now) (sym c.self.view_is) c.requires.ends in
+    let was : Stands v h = subst (λ (s : Hubbing). Stands s h) (sym c.self.view_is) stands in
+    subst (λ (t : Table). Stands (record v { top = t.top; live = c.reserve.new.self.items }) (h ++ begin_entry c.args.query c.args.ends.now (Err c.in-Err.no) ∷ [])) (sym c.in-Err.ensures.err)
+    (subst (λ xs. Stands (record v { live = xs }) (h ++ begin_entry c.args.query c.args.ends.now (Err c.in-Err.no) ∷ [])) (sym c.reserve.ensures.items)
+    (refused_stands v c.self.inside.table h c.args.query c.args.ends.now c.in-Err.no c.self.invariant was are (λ top same. (c.in-Err.ensures.old top).0 (ap Err same)) (λ same. c.in-Err.ensures.twice.0 (ap Err same))))
 
--- src/begin.rt:171:5
 pub invariant_of-self-2 : goal.invariant_of-self-2
-invariant_of-self-2 c = ?
+invariant_of-self-2 c =
+    let v : Hubbing = record { session = c.self.inside.session; at = c.self.inside.at; settings = c.self.inside.settings; tick = c.self.inside.tick; dropped = c.self.inside.dropped; top = c.self.inside.table.top; live = c.self.inside.live.items } in
+    let are : AreEnds (place_in v) c.args.query c.args.ends.now = subst (λ (s : Hubbing). AreEnds (place_in s) c.args.query c.args.ends.now) (sym c.self.view_is) c.requires.ends in
+    let enters : Enters v c.self.inside.table c.begin-2.new.self c.args.query c.args.ends.now c.place_for-place.result c.keys.result.now c.reserve.new.self.items c.as_slice.result.now c.insert.new.live.items c.in-Ok.begun = record {
+      may = c.in_default-begin.ensures.ok.0;
+      now_is = c.in_default-begin.ensures.ok.1;
+      keys_are = c.keys.ensures.value ∙ ap (λ (l : Living). keys_of l.ends) c.begun.view_is ∙ ap keys_of c.in-Ok.ensures.begun.ends_are;
+      reserved_is = c.reserve.ensures.items;
+      seen_is = c.as_slice.ensures.value;
+      before = c.place_for-place.ensures.before;
+      behind = c.place_for-place.ensures.behind;
+      live_is = c.insert.ensures.items;
+      begun = c.in-Ok.ensures.begun;
+    } in
+    enters_hub v c.self.inside.table c.begin-2.new.self c.args.query c.args.ends.now c.place_for-place.result c.keys.result.now c.reserve.new.self.items c.as_slice.result.now c.insert.new.live.items c.in-Ok.begun c.self.invariant are enters
 
--- src/begin.rt:171:5
 pub returns-clause-stands : goal.returns-clause-stands
-returns-clause-stands c = ?
+returns-clause-stands c h stands =
+    let v : Hubbing = record { session = c.self.inside.session; at = c.self.inside.at; settings = c.self.inside.settings; tick = c.self.inside.tick; dropped = c.self.inside.dropped; top = c.self.inside.table.top; live = c.self.inside.live.items } in
+    let are : AreEnds (place_in v) c.args.query c.args.ends.now = subst (λ (s : Hubbing). AreEnds (place_in s) c.args.query c.args.ends.now) (sym c.self.view_is) c.requires.ends in
+    let was : Stands v h = subst (λ (s : Hubbing). Stands s h) (sym c.self.view_is) stands in
+    let enters : Enters v c.self.inside.table c.begin-2.new.self c.args.query c.args.ends.now c.place_for-place.result c.keys.result.now c.reserve.new.self.items c.as_slice.result.now c.insert.new.live.items c.in-Ok.begun = record {
+      may = c.in_default-begin.ensures.ok.0;
+      now_is = c.in_default-begin.ensures.ok.1;
+      keys_are = c.keys.ensures.value ∙ ap (λ (l : Living). keys_of l.ends) c.begun.view_is ∙ ap keys_of c.in-Ok.ensures.begun.ends_are;
+      reserved_is = c.reserve.ensures.items;
+      seen_is = c.as_slice.ensures.value;
+      before = c.place_for-place.ensures.before;
+      behind = c.place_for-place.ensures.behind;
+      live_is = c.insert.ensures.items;
+      begun = c.in-Ok.ensures.begun;
+    } in
+    enters_stands v c.self.inside.table c.begin-2.new.self h c.args.query c.args.ends.now c.place_for-place.result c.keys.result.now c.reserve.new.self.items c.as_slice.result.now c.insert.new.live.items c.in-Ok.begun c.self.invariant was are enters
