@@ -12,3 +12,4 @@ pub mod TakingAny
 pub mod ComingSteps
 pub mod ComingSame
 mod Ticking
+pub mod Gathers

@@ -1,4 +1,8 @@
 // A caller with a hub of session 7, which is asked step by step.
+ghost use Rattle.std.specs.Prelude.{◌≡◌, ◌≤◌, [], ◌∷◌, negsuc};
+ghost use Rattle.ic_law.specs.Asking.{IsEndHere};
+ghost use Rattle.ic_hub.specs.Hubbing.{place_in};
+
 use super::packets::{Packet, segment};
 use crate::Hub;
 use ic_base::{BeginNo, ConnEnd, ConnKey, Datagrams, SegId, Settings};
@@ -46,10 +50,22 @@ pub fn begun(alloc: Global, at: i32) -> Result<Hub, Fail> {
     }
 }
 
+/// Where the hub is.
+fn at(hub: &Hub) -> SegId
+    ensures { result ≡ hub.now.at }
+{
+    hub.at
+}
+
 /// The gather of a query from this segment.
-fn gather(query: u32, from: SegId) -> ConnKey {
+fn gather(hub: &Hub, query: u32, from: SegId) -> ConnKey
+    ensures session { result.session ≡ hub.now.session }
+    ensures query { result.query ≡ query }
+    ensures from { result.from ≡ from }
+    ensures to { result.to ≡ negsuc 0 }
+{
     ConnKey {
-        session: 7,
+        session: hub.session,
         query,
         motion: 1,
         from,
@@ -57,40 +73,66 @@ fn gather(query: u32, from: SegId) -> ConnKey {
     }
 }
 
-fn end(key: ConnKey, sending: bool) -> ConnEnd {
+/// Its sending end, here.
+fn sending(hub: &Hub, query: u32) -> ConnEnd
+    ensures here { IsEndHere (place_in hub.now) query result }
+    ensures from { result.key.from ≡ hub.now.at }
+    ensures to { result.key.to ≡ negsuc 0 }
+{
     ConnEnd {
-        key,
-        sending,
+        key: gather(hub, query, at(hub)),
+        sending: true,
         send_slice: 1,
         recv_slice: 0,
     }
 }
 
-/// Where the hub is.
-fn at(hub: &Hub) -> SegId {
-    hub.at
+/// Its receiving end, here at the dispatcher.
+fn receiving(hub: &Hub, query: u32, from: SegId) -> ConnEnd
+    requires { hub.now.at ≡ negsuc 0 }
+    ensures here { IsEndHere (place_in hub.now) query result }
+    ensures from { result.key.from ≡ from }
+    ensures to { result.key.to ≡ negsuc 0 }
+{
+    ConnEnd {
+        key: gather(hub, query, from),
+        sending: false,
+        send_slice: 1,
+        recv_slice: 0,
+    }
 }
 
-/// The tuple chunk of a row with one whole number.
-fn chunk(row: u8) -> [u8; 15] {
-    [0, 11, 0, 0, 0, 1, 1, 0, 0, 0, 0, 0, 0, 0, row]
-}
-
+/// At the dispatcher with two ends, elsewhere with one.
 fn begin(hub: &mut Hub, alloc: Global, query: u32) -> Result<Result<(), BeginNo>, Fail> {
     if at(hub) == SegId::DISPATCHER {
         let ends = [
-            end(gather(query, segment(0)?), false),
-            end(gather(query, segment(1)?), false),
+            receiving(hub, query, segment(0)?),
+            receiving(hub, query, segment(1)?),
         ];
         Ok(hub.begin(alloc, query, &ends))
     } else {
-        let ends = [end(gather(query, at(hub)), true)];
+        let ends = [sending(hub, query)];
         Ok(hub.begin(alloc, query, &ends))
     }
 }
 
+/// The tuple chunk of a row with one whole number.
+fn chunk(row: u8) -> [u8; 15]
+    ensures { result ≡ 0 ∷ 11 ∷ 0 ∷ 0 ∷ 0 ∷ 1 ∷ 1 ∷ 0 ∷ 0 ∷ 0 ∷ 0 ∷ 0 ∷ 0 ∷ 0 ∷ row ∷ [] }
+{
+    [0, 11, 0, 0, 0, 1, 1, 0, 0, 0, 0, 0, 0, 0, row]
+}
+
+/// Does nothing but look. Its clause: settings are checked, so that a chunk of a row has room.
+fn has_room(hub: &Hub)
+    ensures { 128 ≤ hub.now.settings.packet }
+{
+    let _table = &hub.table;
+}
+
 fn put(hub: &mut Hub, alloc: Global, row: u8) -> HubReply {
-    let key = gather(1, at(hub));
+    has_room(hub);
+    let key = gather(hub, 1, at(hub));
     HubReply::Gave(hub.put(alloc, &key, &chunk(row)))
 }
 
@@ -131,16 +173,16 @@ impl Step {
             Step::Begin(query) => Ok(HubReply::Begun(begin(hub, alloc, query)?)),
             Step::Row(row) => Ok(put(hub, alloc, row)),
             Step::Finish => {
-                let key = gather(1, at(hub));
+                let key = gather(hub, 1, at(hub));
                 Ok(HubReply::Gave(hub.finish(alloc, &key)))
             }
             Step::Take => Ok(HubReply::Took(hub.take(alloc, 1, 1))),
             Step::TakeFrom(from) => {
-                let key = gather(1, segment(from)?);
+                let key = gather(hub, 1, segment(from)?);
                 Ok(HubReply::Took(hub.take_from(alloc, &key)))
             }
             Step::Halt(from) => {
-                let key = gather(1, segment(from)?);
+                let key = gather(hub, 1, segment(from)?);
                 Ok(HubReply::Gave(hub.halt(alloc, &key)))
             }
             Step::Come(packet) => come(hub, alloc, packet),

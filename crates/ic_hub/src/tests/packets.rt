@@ -1,4 +1,6 @@
 // Datagrams that come, made by hand.
+ghost use Rattle.std.specs.Prelude.{◌≡◌, IfOk};
+
 use ic_base::{Bytes, Datagram, SegId};
 use ic_header::{Flags, Header, write};
 use std::alloc::Global;
@@ -35,7 +37,9 @@ pub const GOOD: [u8; 98] = [
 ];
 
 /// The segment of this number.
-pub fn segment(number: i32) -> Result<SegId, Fail> {
+pub fn segment(number: i32) -> Result<SegId, Fail>
+    ensures { IfOk result (λ s. s ≡ number) }
+{
     Ok(SegId::new(number).ok_or("no segment")?)
 }
 
