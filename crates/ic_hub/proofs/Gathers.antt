@@ -1,7 +1,7 @@
 -- Asks that tests make: one end that sends, two that receive, and the chunk of a row.
-use Rattle.std.proofs.Common.{◌≡◌, ◌≢◌, ◌<◌, ◌≤◌, ◌+◌, ℕ, zero, suc, List, [], ◌∷◌, ◌++◌, length, Bool, true, false, Option, Some, None, refl, ap, sym, ◌∙◌, subst, arith, slice_get, position, ◌==◌}
+use Rattle.std.proofs.Common.{◌≡◌, ◌≢◌, ◌<◌, ◌≤◌, ◌+◌, ℕ, zero, suc, List, [], ◌∷◌, ◌++◌, length, Bool, true, false, Option, Some, None, refl, ap, sym, ◌∙◌, subst, arith, slice_get, position, ◌==◌, ℤ, pos, negsuc, int_eq, true≢false}
 use Rattle.std.specs.List.{Contains}
-use Rattle.std.proofs.lemmas.Bool.Decides.{Decides-eqb}
+use Rattle.std.proofs.lemmas.Bool.Decides.{Decides-eqb, Decides-int_eq}
 use Rattle.ic_base.specs.declared.keys.ConnEnd.{ConnEnd}
 use Rattle.ic_base.specs.declared.keys.ConnKey.{ConnKey}
 use Rattle.ic_chunk.specs.declared.chunk.ChunkKind.{ChunkKind}
@@ -53,6 +53,22 @@ two_ends place query a b here_a here_b apart_a apart_b differ =
       once = λ front between back x y are same. let is = two_are a b front between back x y are in absurd (differ (ap (λ e. e.key.from) (sym is.0) ∙ ap (λ k. k.from) same ∙ ap (λ e. e.key.from) is.1));
       both = λ x c self. absurd (of_two (λ e. e.key.from ≢ e.key.to) a b x apart_a apart_b c self);
     }
+
+-- the dispatcher's ends of a gather from segments 0 and 1
+pub gather_ends :
+    (place : Place) (query : ℕ) (a b : ConnEnd) → IsEndHere place query a → IsEndHere place query b → a.key.from ≡ pos 0 → a.key.to ≡ negsuc 0 → b.key.from ≡ pos 1 → b.key.to ≡ negsuc 0
+    → AreEnds place query (a ∷ b ∷ [])
+gather_ends place query a b here_a here_b from_a to_a from_b to_b =
+    let apart_a : a.key.from ≢ a.key.to = λ same. let bad : pos 0 ≡ negsuc 0 = sym from_a ∙ same ∙ to_a in cc in
+    let apart_b : b.key.from ≢ b.key.to = λ same. let bad : pos 1 ≡ negsuc 0 = sym from_b ∙ same ∙ to_b in cc in
+    let differ : a.key.from ≢ b.key.from = λ same. let bad : pos 0 ≡ pos 1 = sym from_a ∙ same ∙ from_b in cc in
+    two_ends place query a b here_a here_b apart_a apart_b differ
+
+-- and a segment's end of it
+pub segment_end : (place : Place) (query : ℕ) (at : ℤ) (a : ConnEnd) → IsEndHere place query a → int_eq at (negsuc 0) ≡ false → a.key.from ≡ at → a.key.to ≡ negsuc 0 → AreEnds place query (a ∷ [])
+segment_end place query at a here other from to =
+    let apart : a.key.from ≢ a.key.to = λ same. true≢false (sym ((Decides-int_eq at (negsuc 0)).1 (sym from ∙ same ∙ to)) ∙ other) in
+    one_end place query a here apart
 
 -- ---- chunks
 
