@@ -19,3 +19,4 @@ pub mod Ticking
 pub mod TickingEmits
 pub mod TickingStands
 pub mod TickingRefused
+pub mod Gathers
