@@ -65,14 +65,14 @@ pub sender_tells : (l : Living) (place : ℕ) (o : OutgoingState) (over : Bool) 
 sender_tells l place o over living here tells =
     record {
       clear = λ sure settings h end stands at.
-        let its = is_sent l place o end living here at in
-        let is_over = (tells h (stands.senders place o here)).0 sure in
-        (λ receives. let bad : true ≡ false = sym its.sends ∙ receives in cc, λ sends. subst (λ (e : ConnEnd). IsOverIn e.key h) its.is is_over);
+          let its = is_sent l place o end living here at in
+          let is_over = (tells h (stands.senders place o here)).0 sure in
+          (λ receives. let bad : true ≡ false = sym its.sends ∙ receives in cc, λ sends. subst (λ (e : ConnEnd). IsOverIn e.key h) its.is is_over);
       unclear = λ off settings h end stands at clear.
-        let its = is_sent l place o end living here at in
-        let sure = (tells h (stands.senders place o here)).1 (subst (λ (e : ConnEnd). IsOverIn e.key h) (sym its.is) (clear.1 its.sends)) in
-        let bad : true ≡ false = sym sure ∙ off in
-        cc;
+          let its = is_sent l place o end living here at in
+          let sure = (tells h (stands.senders place o here)).1 (subst (λ (e : ConnEnd). IsOverIn e.key h) (sym its.is) (clear.1 its.sends)) in
+          let bad : true ≡ false = sym sure ∙ off in
+          cc;
     }
 
 record IsReceived (l : Living) (r : Receiving) (end : ConnEnd) : Type 0 where
@@ -90,12 +90,12 @@ pub receiver_tells : (l : Living) (place : ℕ) (r : Receiving) (over : Bool) �
 receiver_tells l place r over living here ends runs =
     record {
       clear = λ sure settings h end stands at.
-        let its = is_received l place r end living here at in
-        let ended = ends sure settings h (stands.receivers place r here) in
-        (λ receives. subst (λ (e : ConnEnd). IsEnded e.key h) its.is ended, λ sends. let bad : true ≡ false = sym sends ∙ its.receives in cc);
+          let its = is_received l place r end living here at in
+          let ended = ends sure settings h (stands.receivers place r here) in
+          (λ receives. subst (λ (e : ConnEnd). IsEnded e.key h) its.is ended, λ sends. let bad : true ≡ false = sym sends ∙ its.receives in cc);
       unclear = λ off settings h end stands at clear.
-        let its = is_received l place r end living here at in
-        runs off settings h (stands.receivers place r here) (subst (λ (e : ConnEnd). IsEnded e.key h) (sym its.is) (clear.0 its.receives));
+          let its = is_received l place r end living here at in
+          runs off settings h (stands.receivers place r here) (subst (λ (e : ConnEnd). IsEnded e.key h) (sym its.is) (clear.0 its.receives));
     }
 
 -- ---- within the query
@@ -191,10 +191,10 @@ clear_more l ends order place over l_is is less upto tells sure settings h stand
     elim (at_or_below i place below) [
       | inl lower ↦ upto settings h stands i end lower at
       | inr same ↦ (
-        let e = end_here ends order place is less in
-        let both : Some end ≡ Some e.end = sym at ∙ ap (λ n. slice_get l.ends n) same ∙ ap (λ xs. slice_get xs place) l_is ∙ e.here in
-        let is_it : e.end ≡ end = cc in
-        subst (λ (x : ConnEnd). IsClear x h) is_it (tells.clear sure settings h e.end stands (ap (λ xs. end_at xs (get_or order place (Sender 0))) l_is ∙ e.at)))
+          let e = end_here ends order place is less in
+          let both : Some end ≡ Some e.end = sym at ∙ ap (λ n. slice_get l.ends n) same ∙ ap (λ xs. slice_get xs place) l_is ∙ e.here in
+          let is_it : e.end ≡ end = cc in
+          subst (λ (x : ConnEnd). IsClear x h) is_it (tells.clear sure settings h e.end stands (ap (λ xs. end_at xs (get_or order place (Sender 0))) l_is ∙ e.at)))
     ]
 
 -- all ends are clear
@@ -296,18 +296,19 @@ left_stands s h query q l shaped stands here number clear =
       top = top_left s.top query h now lives.left stands.top;
       live = λ other others. (
         λ is.
-          let before = (lives.live other others).0 is in
-          let a = (stands.live other others).0 before.0 in
-          let apart : a.at ≢ q = λ same.
+            let before = (lives.live other others).0 is in
+            let a = (stands.live other others).0 before.0 in
+            let apart : a.at ≢ q = λ same.
             let both : Some a.living ≡ Some l = sym a.here ∙ ap (λ n. slice_get s.live n) same ∙ here in
             let is_it : a.living ≡ l = cc in
             before.1 (sym a.number ∙ ap (λ (x : Living). x.number) is_it ∙ number) in
-          let w = without_on s.live q a.at a.living a.here apart in
-          record { at = w.0; living = a.living; here = w.1; number = a.number; ends_are = a.ends_are },
+            let w = without_on s.live q a.at a.living a.here apart in
+            record { at = w.0; living = a.living; here = w.1; number = a.number; ends_are = a.ends_are },
         λ a.
-          let w = without_cases s.live q a.at a.living a.here in
-          let apart : other ≢ query = λ same. w.1 (shaped.apart w.0 q a.living l w.2 here (a.number ∙ same ∙ sym number)) in
-          (lives.live other others).1 ((stands.live other others).1 (record { at = w.0; living = a.living; here = w.2; number = a.number; ends_are = a.ends_are }), apart));
+            let w = without_cases s.live q a.at a.living a.here in
+            let apart : other ≢ query = λ same. w.1 (shaped.apart w.0 q a.living l w.2 here (a.number ∙ same ∙ sym number)) in
+            (lives.live other others).1 ((stands.live other others).1 (record { at = w.0; living = a.living; here = w.2; number = a.number; ends_are = a.ends_are }), apart),
+      );
       each = λ i x at. let w = without_cases s.live q i x at in all w.0 x w.2;
     }
 

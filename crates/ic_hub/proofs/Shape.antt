@@ -54,9 +54,10 @@ ascend_with [] q l m here number up = up
 ascend_with (x ∷ xs) zero l m here number up =
     let same : l ≡ x = cc in
     (subst (λ n. AllByRecursion (λ (y : Living). n < y.number) xs) (sym (number ∙ ap (λ (y : Living). y.number) same)) up.0, up.1)
-ascend_with (x ∷ xs) (suc q) l m here number up =
-    (all_with (λ (y : Living). x.number < y.number) xs q m up.0 (subst (λ n. x.number < n) (sym number) (all_at (λ (y : Living). x.number < y.number) xs q l up.0 here)),
-    ascend_with xs q l m here number up.1)
+ascend_with (x ∷ xs) (suc q) l m here number up = (
+  all_with (λ (y : Living). x.number < y.number) xs q m up.0 (subst (λ n. x.number < n) (sym number) (all_at (λ (y : Living). x.number < y.number) xs q l up.0 here)),
+  ascend_with xs q l m here number up.1,
+)
 
 pub hub_with : (s : Hubbing) (table : Table) (q : ℕ) (l m : Living) → IsHub s table → slice_get s.live q ≡ Some l → m.number ≡ l.number → m.ends ≡ l.ends → IsOfHub (place_in s) s.tick m
     → IsHub (record s { live = set s.live q m }) table
