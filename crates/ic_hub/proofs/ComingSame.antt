@@ -1,12 +1,11 @@
 -- A datagram that isn't handled leaves the hub as it is.
-use Rattle.std.proofs.Common.{◌≡◌, ℕ, ◌+◌, ◌-◌, ◌^◌, min, List, [], ◌∷◌, set, Option, Some, None, Result, Ok, Err, is_err, OnErr, true, false, refl, ap, sym, ◌∙◌, subst, slice_get}
+use Rattle.std.proofs.Common.{◌≡◌, ℕ, ◌+◌, ◌-◌, ◌^◌, min, List, set, Option, Some, None, Result, Ok, Err, is_err, OnErr, true, false, ap, sym, ◌∙◌, subst, slice_get}
 use Rattle.std.specs.declared.alloc.AllocError.{AllocError}
 use Rattle.ic_base.specs.declared.datagram.Datagram.{Datagram}
 use Rattle.ic_header.specs.declared.header.Header.{Header}
 use Rattle.ic_recvring.specs.Ring.{Ring, Packet as Kept}
 use Rattle.ic_law.specs.declared.history.Arrived.{Arrived}
 use Rattle.ic_law.specs.declared.history.Arrived.TheVariants.{Handled, Dropped}
-use Rattle.ic_law.specs.declared.history.DropCause.{DropCause}
 use Rattle.ic_law.specs.declared.history.Entry.{Entry}
 use Rattle.ic_places.specs.declared.slots.Sides.{Sides}
 use Rattle.ic_outgoing.specs.Outgoing.{OutgoingState}

@@ -1,5 +1,5 @@
 -- What each step of hearing a datagram gives, as it is.
-use Rattle.std.proofs.Common.{◌≡◌, ℕ, ℤ, ◌+◌, ◌^◌, ◌<◌, ◌++◌, List, [], ◌∷◌, set, length, Bool, true, false, Option, Some, None, Result, Ok, Err, is_err, refl, ap, sym, ◌∙◌, subst, slice_get, slice_index_or, IfOk, OnErr}
+use Rattle.std.proofs.Common.{◌≡◌, ℕ, ℤ, ◌+◌, ◌^◌, ◌<◌, List, [], set, length, Bool, true, false, Option, Some, None, Result, Ok, Err, is_err, refl, ap, sym, ◌∙◌, subst, slice_get, slice_index_or, IfOk, OnErr}
 use Rattle.std.proofs.lemmas.Option.{slice_get-get_or, slice_get_within}
 use Rattle.std.proofs.lemmas.List.{length-append}
 use Rattle.std.specs.declared.alloc.AllocError.{AllocError}
@@ -66,7 +66,7 @@ pub hears_end : (s after : Receiving) (head : Header) (body : List ℕ) (a : Opt
 hears_end s after head body a (Stopped d halted is told same) = ap (λ (r : Receiving). r.end) same
 hears_end s after head body a (Running ring now runs hears same) = ap (λ (r : Receiving). r.end) same
 
-asks_end : (head : Header) (body : List ℕ) (old new : Receiving) (a : Option Datagram) → Asks head body old new a → new.end ≡ old.end
+pub asks_end : (head : Header) (body : List ℕ) (old new : Receiving) (a : Option Datagram) → Asks head body old new a → new.end ≡ old.end
 asks_end head body old new a (WithRows rows hears stands) = hears_end old new head body a hears
 asks_end head body old new a (WithQuery query hears same stands) = ap (λ (r : Receiving). r.end) same
 

@@ -13,4 +13,10 @@ pub mod Choosing
 pub mod TakingAny
 pub mod ComingSteps
 pub mod ComingSame
-mod Ticking
+pub mod ComingStands
+pub mod ComingQuery
+pub mod Ticking
+pub mod TickingEmits
+pub mod TickingStands
+pub mod TickingRefused
+pub mod Gathers

@@ -118,18 +118,18 @@ pub ends_keep : (s new : Hubbing) (h : List Entry) (e : Entry) → Shaped new �
 ends_keep s new h e shaped place same stands all =
     record {
       sending = λ end sends here.
-        let a = among_on s.live new.live end.key.query here.ends same ((stands.live end.key.query here.ends).0 here.live) in
-        let has : Contains a.living.ends end = subst (λ x. Contains x end) (sym a.ends_are) here.stands in
-        let o = sender_of a.living end (shaped.living a.at a.living a.here) has sends in
-        let keeps = (((all a.at a.living a.here).senders o.at o.sender o.here).sends).law h e [] refl in
-        let own : o.sender.sending.settings ≡ s.settings = all_at _ a.living.senders o.at o.sender (shaped.of_hub a.at a.living a.here).settings o.here ∙ place.settings in
-        subst (λ x. KeepsSending x end h e) own (subst (λ x. KeepsSending o.sender.sending.settings x h e) o.is keeps);
+          let a = among_on s.live new.live end.key.query here.ends same ((stands.live end.key.query here.ends).0 here.live) in
+          let has : Contains a.living.ends end = subst (λ x. Contains x end) (sym a.ends_are) here.stands in
+          let o = sender_of a.living end (shaped.living a.at a.living a.here) has sends in
+          let keeps = (((all a.at a.living a.here).senders o.at o.sender o.here).sends).law h e [] refl in
+          let own : o.sender.sending.settings ≡ s.settings = all_at _ a.living.senders o.at o.sender (shaped.of_hub a.at a.living a.here).settings o.here ∙ place.settings in
+          subst (λ x. KeepsSending x end h e) own (subst (λ x. KeepsSending o.sender.sending.settings x h e) o.is keeps);
       receiving = λ end receives here.
-        let a = among_on s.live new.live end.key.query here.ends same ((stands.live end.key.query here.ends).0 here.live) in
-        let has : Contains a.living.ends end = subst (λ x. Contains x end) (sym a.ends_are) here.stands in
-        let r = receiver_of a.living end (shaped.living a.at a.living a.here) has receives in
-        let keeps = ((all a.at a.living a.here).receivers r.at r.receiver r.here).law h e [] refl in
-        subst (λ x. Receives x end h e) place.settings (subst (λ x. Receives new.settings x h e) r.is keeps);
+          let a = among_on s.live new.live end.key.query here.ends same ((stands.live end.key.query here.ends).0 here.live) in
+          let has : Contains a.living.ends end = subst (λ x. Contains x end) (sym a.ends_are) here.stands in
+          let r = receiver_of a.living end (shaped.living a.at a.living a.here) has receives in
+          let keeps = ((all a.at a.living a.here).receivers r.at r.receiver r.here).law h e [] refl in
+          subst (λ x. Receives x end h e) place.settings (subst (λ x. Receives new.settings x h e) r.is keeps);
     }
 
 -- ---- the whole stands
@@ -154,18 +154,19 @@ pub adds : (s new : Hubbing) (h : List Entry) (e : Entry) → Stands s h → Add
 adds s new h e stands a =
     let keeps = ends_keep s new h e a.shaped a.place a.same stands a.stand in
     let goes : Goes (place_in s) (h ++ e ∷ []) =
-        record {
-          law = law_goes_on (place_in s) h e stands.goes.law (a.point keeps);
-          emission = emission_goes_on (place_in s) h e stands.goes.emission keeps;
-          ahead = ahead_goes_on (place_in s) h e a.about stands.goes.ahead;
-        } in
+    record {
+      law = law_goes_on (place_in s) h e stands.goes.law (a.point keeps);
+      emission = emission_goes_on (place_in s) h e stands.goes.emission keeps;
+      ahead = ahead_goes_on (place_in s) h e a.about stands.goes.ahead;
+    } in
     record {
       goes = subst (λ p. Goes p (h ++ e ∷ [])) (sym (same_place s new a.place)) goes;
       clock = a.clock;
       top = subst (λ t. IsTop t (h ++ e ∷ [])) (sym a.top) (top_same s.top h (h ++ e ∷ []) a.lives.left stands.top);
       live = λ query ends. (
         λ live. among_on s.live new.live query ends a.same ((stands.live query ends).0 ((a.lives.live query ends).0 live)),
-        λ among. (a.lives.live query ends).1 ((stands.live query ends).1 (among_back s.live new.live query ends a.same among)));
+        λ among. (a.lives.live query ends).1 ((stands.live query ends).1 (among_back s.live new.live query ends a.same among)),
+      );
       each = a.stand;
     }
 
@@ -239,15 +240,15 @@ other_stands s h e c side i x shaped stands here apart about unserved =
     let was = stands.each i x here in
     record {
       senders = λ k o at.
-        let end = end_of_sender x k o (shaped.living i x here) at in
-        let other : o.sending.end.key ≡ c → side ≡ true → ⊥ = λ same b. apart (number_of s i x o.sending.end shaped here end.has ∙ ap (λ (y : ConnKey). y.query) same) in
-        others_pass o h e ((concerned_passes (place_in s) c side h e o.sending.end about).0 other).silent (was.senders k o at);
+          let end = end_of_sender x k o (shaped.living i x here) at in
+          let other : o.sending.end.key ≡ c → side ≡ true → ⊥ = λ same b. apart (number_of s i x o.sending.end shaped here end.has ∙ ap (λ (y : ConnKey). y.query) same) in
+          others_pass o h e ((concerned_passes (place_in s) c side h e o.sending.end about).0 other).silent (was.senders k o at);
       receivers = λ k r at.
-        let end = end_of_receiver x k r (shaped.living i x here) at in
-        let place = contains_at x.ends r.end end.has in
-        let ours = all_at (IsOurs (place_in s)) x.ends place.0 r.end (shaped.of_hub i x here).ours place.1 in
-        let other : r.end.key ≡ c → side ≡ false → ⊥ = λ same b. apart (number_of s i x r.end shaped here end.has ∙ ap (λ (y : ConnKey). y.query) same) in
-        stands_silent s.settings r h e ((concerned_passes (place_in s) c side h e r.end about).1 other ours.session (ours.receives_here end.side_is)) (was.receivers k r at);
+          let end = end_of_receiver x k r (shaped.living i x here) at in
+          let place = contains_at x.ends r.end end.has in
+          let ours = all_at (IsOurs (place_in s)) x.ends place.0 r.end (shaped.of_hub i x here).ours place.1 in
+          let other : r.end.key ≡ c → side ≡ false → ⊥ = λ same b. apart (number_of s i x r.end shaped here end.has ∙ ap (λ (y : ConnKey). y.query) same) in
+          stands_silent s.settings r h e ((concerned_passes (place_in s) c side h e r.end about).1 other ours.session (ours.receives_here end.side_is)) (was.receivers k r at);
       served = λ k motion last m at. served_before x.number motion h e last (unserved motion) (was.served k motion last m at);
     }
 
@@ -273,8 +274,8 @@ query_moved s h e q l m end shaped stands moves has about allowed formed takes =
       stand = λ i x at. elim (set_cases s.live q i m x at) [
         | inl w ↦ subst (λ (y : Living). LivingStands s.settings y (h ++ e ∷ [])) (sym w.1) moves.stands
         | inr w ↦ (
-          let apart : x.number ≢ end.key.query = λ same. w.0 (sym (shaped.apart i q x l w.1 moves.here (same ∙ sym number))) in
-          other_stands s h e end.key end.sending i x shaped stands w.1 apart about (λ motion from served. apart (served_here (place_in s) end.key end.sending e x.number motion from about.asks served)))
+            let apart : x.number ≢ end.key.query = λ same. w.0 (sym (shaped.apart i q x l w.1 moves.here (same ∙ sym number))) in
+            other_stands s h e end.key end.sending i x shaped stands w.1 apart about (λ motion from served. apart (served_here (place_in s) end.key end.sending e x.number motion from about.asks served)))
       ];
       top = refl;
       clock = clock_stays h e (still_then (place_in s) end.key end.sending e about) ∙ stands.clock;
@@ -315,14 +316,16 @@ receiver_living l i old new living here same =
 pub sender_keeps : (place : Place) (tick : ℕ) (l : Living) (i : ℕ) (old new : OutgoingState) → IsLiving l → IsOfHub place tick l → slice_get l.senders i ≡ Some old → SameEnd old new → new.now ≡ old.now
     → IsLiving (with_sender l i new) × IsOfHub place tick (with_sender l i new)
 sender_keeps place tick l i old new living of_hub here same tick_is =
-    let keeps = sender_living l i old new living here same.end in
-    (keeps, record {
-      living = keeps;
-      ends = of_hub.ends;
-      ours = of_hub.ours;
-      settings = all_set _ l.senders i new of_hub.settings (same.settings ∙ all_at _ l.senders i old of_hub.settings here);
-      tick_is = all_set _ l.senders i new of_hub.tick_is (tick_is ∙ all_at _ l.senders i old of_hub.tick_is here);
-    })
+    let keeps = sender_living l i old new living here same.end in (
+      keeps,
+      record {
+        living = keeps;
+        ends = of_hub.ends;
+        ours = of_hub.ours;
+        settings = all_set _ l.senders i new of_hub.settings (same.settings ∙ all_at _ l.senders i old of_hub.settings here);
+        tick_is = all_set _ l.senders i new of_hub.tick_is (tick_is ∙ all_at _ l.senders i old of_hub.tick_is here);
+      },
+    )
 
 pub receiver_keeps : (place : Place) (tick : ℕ) (l : Living) (i : ℕ) (old new : Receiving) → IsLiving l → IsOfHub place tick l → slice_get l.receivers i ≡ Some old → new.end ≡ old.end
     → IsLiving (with_receiver l i new) × IsOfHub place tick (with_receiver l i new)
@@ -368,15 +371,15 @@ sender_moved s h e q i l old new shaped stands here at same tick moved about all
         senders = λ k o found. elim (set_cases l.senders i k new o found) [
           | inl w ↦ subst (λ x. SenderStands x (h ++ e ∷ [])) (sym w.1) moved
           | inr w ↦ (
-            let other : o.sending.end.key ≡ old.sending.end.key → true ≡ true → ⊥ = λ key b. w.0 (sym ((one_sender s q q k i l l o old shaped here here w.1 at key).place)) in
-            others_pass o h e ((concerned_passes (place_in s) old.sending.end.key true h e o.sending.end about).0 other).silent (was.senders k o w.1))
+              let other : o.sending.end.key ≡ old.sending.end.key → true ≡ true → ⊥ = λ key b. w.0 (sym ((one_sender s q q k i l l o old shaped here here w.1 at key).place)) in
+              others_pass o h e ((concerned_passes (place_in s) old.sending.end.key true h e o.sending.end about).0 other).silent (was.senders k o w.1))
         ];
         receivers = λ k r found.
-          let its = end_of_receiver l k r living found in
-          let place = contains_at l.ends r.end its.has in
-          let ours = all_at (IsOurs (place_in s)) l.ends place.0 r.end (shaped.of_hub q l here).ours place.1 in
-          let other : r.end.key ≡ old.sending.end.key → true ≡ false → ⊥ = λ key b. let bad : true ≡ false = b in cc in
-          stands_silent s.settings r h e ((concerned_passes (place_in s) old.sending.end.key true h e r.end about).1 other ours.session (ours.receives_here its.side_is)) (was.receivers k r found);
+            let its = end_of_receiver l k r living found in
+            let place = contains_at l.ends r.end its.has in
+            let ours = all_at (IsOurs (place_in s)) l.ends place.0 r.end (shaped.of_hub q l here).ours place.1 in
+            let other : r.end.key ≡ old.sending.end.key → true ≡ false → ⊥ = λ key b. let bad : true ≡ false = b in cc in
+            stands_silent s.settings r h e ((concerned_passes (place_in s) old.sending.end.key true h e r.end about).1 other ours.session (ours.receives_here its.side_is)) (was.receivers k r found);
         served = λ k motion last m found. served_before l.number motion h e last (λ from served. unserved (place_in s) old.sending.end.key e about.asks l.number motion from served) (was.served k motion last m found);
       };
     }) end.has about' allowed formed (takes_none (place_in s) old.sending.end.key h e about.asks)
@@ -401,16 +404,16 @@ receiver_moved s h e q i l old new served shaped stands here at same count moved
       of_hub = record { living = record { senders = keeps.0.senders; receivers = keeps.0.receivers; served = count ∙ living.served }; ends = keeps.1.ends; ours = keeps.1.ours; settings = keeps.1.settings; tick_is = keeps.1.tick_is };
       stands = record {
         senders = λ k o found.
-          let other : o.sending.end.key ≡ old.end.key → false ≡ true → ⊥ = λ key b. let bad : false ≡ true = b in cc in
-          others_pass o h e ((concerned_passes (place_in s) old.end.key false h e o.sending.end about).0 other).silent (was.senders k o found);
+            let other : o.sending.end.key ≡ old.end.key → false ≡ true → ⊥ = λ key b. let bad : false ≡ true = b in cc in
+            others_pass o h e ((concerned_passes (place_in s) old.end.key false h e o.sending.end about).0 other).silent (was.senders k o found);
         receivers = λ k r found. elim (set_cases l.receivers i k new r found) [
           | inl w ↦ subst (λ x. ReceiverStands s.settings x (h ++ e ∷ [])) (sym w.1) moved
           | inr w ↦ (
-            let its = end_of_receiver l k r living w.1 in
-            let place = contains_at l.ends r.end its.has in
-            let ours = all_at (IsOurs (place_in s)) l.ends place.0 r.end (shaped.of_hub q l here).ours place.1 in
-            let other : r.end.key ≡ old.end.key → false ≡ false → ⊥ = λ key b. w.0 (sym ((one_receiver s q q k i l l r old shaped here here w.1 at key).place)) in
-            stands_silent s.settings r h e ((concerned_passes (place_in s) old.end.key false h e r.end about).1 other ours.session (ours.receives_here its.side_is)) (was.receivers k r w.1))
+              let its = end_of_receiver l k r living w.1 in
+              let place = contains_at l.ends r.end its.has in
+              let ours = all_at (IsOurs (place_in s)) l.ends place.0 r.end (shaped.of_hub q l here).ours place.1 in
+              let other : r.end.key ≡ old.end.key → false ≡ false → ⊥ = λ key b. w.0 (sym ((one_receiver s q q k i l l r old shaped here here w.1 at key).place)) in
+              stands_silent s.settings r h e ((concerned_passes (place_in s) old.end.key false h e r.end about).1 other ours.session (ours.receives_here its.side_is)) (was.receivers k r w.1))
         ];
         served = serves;
       };
@@ -424,8 +427,8 @@ takes_one e query motion from served none =
     let c : ConnKey = record { session = 0; query = query; motion = motion; from = from; to = from } in
     let is : takes c e ≡ parcel_for c (Take query motion) (Took (Ok (served.parcel, served.ds))) = ap (λ a. parcel_for c a e.reply) served.ask ∙ ap (λ r. parcel_for c (Take query motion) r) served.reply in
     let one = ap (λ b. cond (b && (motion == motion)) (parcels_from from (served.parcel ∷ [])) []) ((Decides-eqb query query).1 refl)
-        ∙ ap (λ b. cond b (parcels_from from (served.parcel ∷ [])) []) ((Decides-eqb motion motion).1 refl)
-        ∙ ap (λ b. cond b (served.parcel ∷ []) []) ((Decides-int_eq served.parcel.from from).1 (sym served.sender)) in
+    ∙ ap (λ b. cond b (parcels_from from (served.parcel ∷ [])) []) ((Decides-eqb motion motion).1 refl)
+    ∙ ap (λ b. cond b (served.parcel ∷ []) []) ((Decides-int_eq served.parcel.from from).1 (sym served.sender)) in
     let bad : served.parcel ∷ [] ≡ [] = sym one ∙ sym is ∙ none in
     cc
 
@@ -435,14 +438,14 @@ nought_living s h e i l shaped stands here about =
     let was = stands.each i l here in
     let living = shaped.living i l here in
     let ours : (end : ConnEnd) → Contains l.ends end → IsOurs (place_in s) end =
-        λ end has. let place = contains_at l.ends end has in all_at (IsOurs (place_in s)) l.ends place.0 end (shaped.of_hub i l here).ours place.1 in
+    λ end has. let place = contains_at l.ends end has in all_at (IsOurs (place_in s)) l.ends place.0 end (shaped.of_hub i l here).ours place.1 in
     record {
       senders = λ k o at.
-        let its = end_of_sender l k o living at in
-        others_pass o h e ((nought_passes (place_in s) h e o.sending.end about (ours o.sending.end its.has)).0 its.side_is).silent (was.senders k o at);
+          let its = end_of_sender l k o living at in
+          others_pass o h e ((nought_passes (place_in s) h e o.sending.end about (ours o.sending.end its.has)).0 its.side_is).silent (was.senders k o at);
       receivers = λ k r at.
-        let its = end_of_receiver l k r living at in
-        stands_silent s.settings r h e ((nought_passes (place_in s) h e r.end about (ours r.end its.has)).1 its.side_is) (was.receivers k r at);
+          let its = end_of_receiver l k r living at in
+          stands_silent s.settings r h e ((nought_passes (place_in s) h e r.end about (ours r.end its.has)).1 its.side_is) (was.receivers k r at);
       served = λ k motion last m at. served_before l.number motion h e last (λ from served. serves_none h e l.number motion from (quiet (place_in s) h e about) served) (was.served k motion last m at);
     }
   where

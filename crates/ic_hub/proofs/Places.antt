@@ -179,7 +179,7 @@ one_sender s q r i j l m o p shaped lq mr oi pj key =
     let same : m ≡ l = some_one m l (sym mr ∙ ap (λ n. slice_get s.live n) (sym place) ∙ lq) in
     let pj' : slice_get l.senders j ≡ Some p = ap (λ (x : Living). slice_get x.senders j) (sym same) ∙ pj in
     let ends : (k : ℕ) (x : OutgoingState) → slice_get l.senders k ≡ Some x → slice_get (sending_ends l.ends) k ≡ Some x.sending.end =
-        λ k x at. ap (λ xs. slice_get xs k) (sym (shaped.living q l lq).senders) ∙ map_at (λ (y : OutgoingState). y.sending.end) l.senders k x at in
+    λ k x at. ap (λ xs. slice_get xs k) (sym (shaped.living q l lq).senders) ∙ map_at (λ (y : OutgoingState). y.sending.end) l.senders k x at in
     record {
       query = place;
       place = one_place (place_in s) l.number l.ends (λ e. e.sending) true i j o.sending.end p.sending.end (shaped.of_hub q l lq).ends (ends i o oi) (ends j p pj') eo.side_is ep.side_is key;
@@ -196,7 +196,7 @@ one_receiver s q r i j l m o p shaped lq mr oi pj key =
     let same : m ≡ l = some_one m l (sym mr ∙ ap (λ n. slice_get s.live n) (sym place) ∙ lq) in
     let pj' : slice_get l.receivers j ≡ Some p = ap (λ (x : Living). slice_get x.receivers j) (sym same) ∙ pj in
     let ends : (k : ℕ) (x : Receiving) → slice_get l.receivers k ≡ Some x → slice_get (receiving_ends l.ends) k ≡ Some x.end =
-        λ k x at. ap (λ xs. slice_get xs k) (sym (shaped.living q l lq).receivers) ∙ map_at (λ (y : Receiving). y.end) l.receivers k x at in
+    λ k x at. ap (λ xs. slice_get xs k) (sym (shaped.living q l lq).receivers) ∙ map_at (λ (y : Receiving). y.end) l.receivers k x at in
     record {
       query = place;
       place = one_place (place_in s) l.number l.ends (λ e. not e.sending) false i j o.end p.end (shaped.of_hub q l lq).ends (ends i o oi) (ends j p pj') eo.side_is ep.side_is key;

@@ -8,7 +8,7 @@ use Rattle.ic_hub.proofs.Places.{Shaped, all_at, apart_or_same}
 
 -- ---- numbers that ascend
 
-less_at : (live : List Living) (i j : ℕ) (a b : Living) → Ascend live → i < j → slice_get live i ≡ Some a → slice_get live j ≡ Some b → a.number < b.number
+pub less_at : (live : List Living) (i j : ℕ) (a b : Living) → Ascend live → i < j → slice_get live i ≡ Some a → slice_get live j ≡ Some b → a.number < b.number
 less_at [] i j a b up less ai bj = let bad : None ≡ Some a = ai in cc
 less_at (x ∷ xs) zero zero a b up less ai bj = absurd (omega (arith, less))
 less_at (x ∷ xs) zero (suc j) a b up less ai bj = let same : x ≡ a = cc in subst (λ (y : Living). y.number < b.number) same (all_at _ xs j b up.0 bj)
@@ -54,9 +54,10 @@ ascend_with [] q l m here number up = up
 ascend_with (x ∷ xs) zero l m here number up =
     let same : l ≡ x = cc in
     (subst (λ n. AllByRecursion (λ (y : Living). n < y.number) xs) (sym (number ∙ ap (λ (y : Living). y.number) same)) up.0, up.1)
-ascend_with (x ∷ xs) (suc q) l m here number up =
-    (all_with (λ (y : Living). x.number < y.number) xs q m up.0 (subst (λ n. x.number < n) (sym number) (all_at (λ (y : Living). x.number < y.number) xs q l up.0 here)),
-    ascend_with xs q l m here number up.1)
+ascend_with (x ∷ xs) (suc q) l m here number up = (
+  all_with (λ (y : Living). x.number < y.number) xs q m up.0 (subst (λ n. x.number < n) (sym number) (all_at (λ (y : Living). x.number < y.number) xs q l up.0 here)),
+  ascend_with xs q l m here number up.1,
+)
 
 pub hub_with : (s : Hubbing) (table : Table) (q : ℕ) (l m : Living) → IsHub s table → slice_get s.live q ≡ Some l → m.number ≡ l.number → m.ends ≡ l.ends → IsOfHub (place_in s) s.tick m
     → IsHub (record s { live = set s.live q m }) table

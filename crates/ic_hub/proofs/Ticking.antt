@@ -1,6 +1,6 @@
 -- A walk over connections, each with what it is at the next tick.
-use Rattle.std.proofs.Common.{◌≡◌, ◌≢◌, ◌<◌, ◌≤◌, ◌+◌, ℕ, zero, suc, List, [], ◌∷◌, ◌++◌, set, take, drop, map, length, cond, ◌==◌, Option, Some, None, Result, Ok, Err, refl, ap, sym, ◌∙◌, subst, arith, inl, inr, ◌⊎◌, slice_get, get_or, append-nil, append_assoc}
-use Rattle.std.specs.Result.{IfErr, IsErrAnd}
+use Rattle.std.proofs.Common.{◌≡◌, ◌≢◌, ◌<◌, ◌≤◌, ◌+◌, ℕ, zero, suc, List, [], ◌∷◌, ◌++◌, set, take, drop, map, length, cond, ◌==◌, Some, None, Result, Ok, Err, refl, ap, sym, ◌∙◌, subst, arith, inl, inr, slice_get, get_or, append_assoc}
+use Rattle.std.specs.Result.{IfErr, IsErr, IsErrAnd}
 use Rattle.std.specs.List.{AllByRecursion, flat_map}
 use Rattle.std.proofs.lemmas.Option.{slice_get_within, slice_get-get_or, get_or_from_slice_get}
 use Rattle.ic_conntab.specs.Table.{Table}
@@ -17,7 +17,7 @@ use Rattle.ic_outgoing.specs.Outgoing.{OutgoingState, SameEnd, next_tick, datagr
 use Rattle.ic_outgoing.specs.Standing.{Tells, StandsNext}
 use Rattle.ic_hub.specs.Hubbing.{Hubbing, Living, IsLiving, IsOfHub, keys_in, Ascend, IsHub, place_in}
 use Rattle.ic_hub.specs.Ticking.{RefusedFor, GivenUp, Roomless, RefusedFirst, Passes, tick_no, ticked_query, ticked}
-use Rattle.ic_hub.proofs.Places.{all_at, at_map, map_at, apart_or_same}
+use Rattle.ic_hub.proofs.Places.{at_map, map_at, apart_or_same}
 
 -- ---- one connection
 
@@ -111,9 +111,9 @@ passed_more f P n old new x h here so_far = record {
     | inr w ↦ elim w [
       | inl behind ↦ absurd (omega (arith, less, behind))
       | inr same ↦ (
-        let both : Some y ≡ Some x = sym at ∙ ap (slice_get old) same ∙ h in
-        let is : x ≡ y = cc in
-        ap (slice_get (set new n (f x))) same ∙ set_here new n x (f x) (so_far.rest n x (omega arith) h) ∙ ap (λ z. Some (f z)) is)
+          let both : Some y ≡ Some x = sym at ∙ ap (slice_get old) same ∙ h in
+          let is : x ≡ y = cc in
+          ap (slice_get (set new n (f x))) same ∙ set_here new n x (f x) (so_far.rest n x (omega arith) h) ∙ ap (λ z. Some (f z)) is)
     ]
   ];
   rest = λ k y more at. set_there new n k (f x) (λ e. absurd (omega (arith, more, e))) ∙ so_far.rest k y (omega (arith, more)) at;
@@ -232,3 +232,13 @@ pub hub_then : (s : Hubbing) (table : Table) (tick : ℕ) (live : List Living) �
     → IsHub (record s { tick = tick; live = live }) table
 hub_then s table tick live tick_is live_is is all =
     subst (λ n. IsHub (record s { tick = n; live = live }) table) (sym tick_is) (subst (λ xs. IsHub (record s { tick = next_tick s.tick; live = xs }) table) (sym live_is) (hub_ticked s table is all))
+
+-- ---- options
+
+pub some_one : {A : Type 0} (a b : A) → Some a ≡ Some b → a ≡ b
+some_one a b h = cc
+
+-- what holds of a refusal holds of the answer that hands it on
+pub handed_back : {A : Type 0} (P : Result A TickNo → Type 0) (r : Result A TickNo) (refusal : TickNo) → IsErr r → IsErrAnd r (λ e. e ≡ refusal) → P (Err refusal) → P r
+handed_back P (Ok a) refusal err is here = absurd (cc)
+handed_back P (Err e) refusal err is here = subst (λ x. P (Err x)) (sym is) here

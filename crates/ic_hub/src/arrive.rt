@@ -318,6 +318,7 @@ impl Hub {
         ensures place { SamePlace self.old self.new }
         ensures stands { (h : List Entry) → Stands self.old h → Stands self.new (h ++ arrive_entry datagram.now result ∷ []) }
     {
+        let _table = &self.table;
         let (how, datagrams) = self.hear_any(alloc, datagram)?;
         self.count(how);
         Ok((how, datagrams))

@@ -51,11 +51,7 @@ fn append(datagrams: &mut Datagrams, more: Datagrams) -> Result<(), AllocError>
 }
 
 /// What is due of one connection: the numbers of its packets. Their datagrams are put behind others.
-fn due_of(
-    alloc: Global,
-    sender: &Outgoing,
-    datagrams: &mut Datagrams,
-) -> Result<Numbers, TickNo>
+fn due_of(alloc: Global, sender: &Outgoing, datagrams: &mut Datagrams) -> Result<Numbers, TickNo>
     ensures numbers { IfOk result (λ numbers. numbers ≡ numbers_due sender.now) }
     ensures datagrams { OnOk result (datagrams.new ≡ datagrams.old ++ datagrams_due sender.now) }
     ensures may { OnOk result (MayResend sender.now) }
@@ -135,11 +131,7 @@ fn pass(senders: &mut [Outgoing], numbers: &[Numbers])
 
 impl Query {
     /// What is due at the next tick, without a change.
-    fn due(
-        &self,
-        alloc: Global,
-        datagrams: &mut Datagrams,
-    ) -> Result<Vec<Numbers>, TickNo>
+    fn due(&self, alloc: Global, datagrams: &mut Datagrams) -> Result<Vec<Numbers>, TickNo>
         ensures numbers { IfOk result (λ v. v.items ≡ plan_of self.now) }
         ensures datagrams { OnOk result (datagrams.new ≡ datagrams.old ++ emission_of self.now) }
         ensures may { OnOk result (MayTick self.now) }

@@ -168,6 +168,11 @@ looks_formed s q now result sound (Looks.Again none is) =
 looks_formed s q now result sound (Looks.GivenUp n some_ is) = subst (λ (r : Result Due SendNo). IfOk r (λ (d : Due). AreOutgoing s d.datagrams)) (sym is) tt
 looks_formed s q now result sound (Looks.LooksWithout is) = subst (λ (r : Result Due SendNo). IfOk r (λ (d : Due). AreOutgoing s d.datagrams)) (sym is) tt
 
+pub looks_increase : (s : Sending) (q : Queue) (now : ℕ) (result : Result Due SendNo) → IsSound s q now → IsQueue q → Looks (state s q.held now) result → IfOk result (λ (d : Due). IsIncreasingFrom 1 d.numbers)
+looks_increase s q now result sound queue (Looks.Again none is) = subst (λ (r : Result Due SendNo). IfOk r (λ (d : Due). IsIncreasingFrom 1 d.numbers)) (sym is) (due_increase s q now sound queue)
+looks_increase s q now result sound queue (Looks.GivenUp n some_ is) = subst (λ (r : Result Due SendNo). IfOk r (λ (d : Due). IsIncreasingFrom 1 d.numbers)) (sym is) tt
+looks_increase s q now result sound queue (Looks.LooksWithout is) = subst (λ (r : Result Due SendNo). IfOk r (λ (d : Due). IsIncreasingFrom 1 d.numbers)) (sym is) tt
+
 -- ---- the status query
 
 asked_is : (s : Sending) (held : List Item) (h : List Entry) → StandsFor s held h → (timing_of s.end.key s.settings h).asked ≡ s.asked

@@ -85,6 +85,7 @@ impl Outgoing {
     pub fn due(&self, alloc: Global) -> Result<Due, SendNo>
         ensures looks { Looks self.now result }
         ensures ok { IfOk result (GivesDue self.now) }
+        ensures order { IfOk result (λ d. IsIncreasingFrom 1 d.numbers) }
         ensures tells { Tells self.now KeepsPackets GivesPacketUp result }
         ensures formed { IfOk result (λ d. AreOutgoing self.now.sending d.datagrams) }
     {

@@ -26,7 +26,7 @@ loop-i-preserved c =
     let at = stands_next ticking Passes c.loop-i.i old c.loop-i.senders o c.loop-i.invariant (omega (arith, c.loop-i-test.true)) c.index-senders-i.is in
     let is : now ≡ ticking o = c.ticked.ensures.ok ∙ ap ticking (sym c.index-senders-i.is) in
     let here = passes o now is (subst (λ (x : OutgoingState). SameEnd x now) (sym c.index-senders-i.is) c.ticked.ensures.end)
-        (subst (λ (x : OutgoingState). StandsNext x now (IsTicking x.sending.end.key (datagrams_due x ++ queries_due x))) (sym c.index-senders-i.is) c.ticked.ensures.stands) in
+    (subst (λ (x : OutgoingState). StandsNext x now (IsTicking x.sending.end.key (datagrams_due x ++ queries_due x))) (sym c.index-senders-i.is) c.ticked.ensures.stands) in
     subst (λ (x : OutgoingState). Passed ticking Passes (c.loop-i.i + 1) old (set c.loop-i.senders c.loop-i.i x)) (sym is) (passed_more ticking Passes c.loop-i.i old c.loop-i.senders o at here c.loop-i.invariant)
 
 pub returns-clause-ok : goal.returns-clause-ok

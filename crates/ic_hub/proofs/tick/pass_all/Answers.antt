@@ -1,4 +1,4 @@
-use Rattle.std.proofs.Common.{◌≡◌, ◌+◌, List, ℕ, sym, subst, arith, ◌∙◌, ap, set, map}
+use Rattle.std.proofs.Common.{◌+◌, sym, subst, arith, ◌∙◌, ap, set}
 use Rattle.std.specs.List.{AllByRecursion}
 use Rattle.ic_hub.specs.Hubbing.{Living}
 use Rattle.ic_hub.specs.Ticking.{MayTick, Passes, plan_of, ticked_query}

@@ -1,4 +1,4 @@
-use Rattle.std.proofs.Common.{◌∙◌, ℤ, None, Ok, true, false, refl, ap, sym, subst}
+use Rattle.std.proofs.Common.{ℤ, None, Ok, true, false, refl, ap, subst}
 use Rattle.ic_base.specs.declared.keys.ConnKey.{ConnKey}
 use Rattle.ic_hub.specs.declared.finding.Found.TheVariants as says
 use Rattle.ic_hub.specs.Hubbing.{Hubbing}

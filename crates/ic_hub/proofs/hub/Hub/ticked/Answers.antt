@@ -1,4 +1,4 @@
-use Rattle.std.proofs.Common.{◌≡◌, List, ◌∙◌, sym, subst, map, ap}
+use Rattle.std.proofs.Common.{◌∙◌, sym, subst, map, ap}
 use Rattle.std.specs.List.{AllByRecursion}
 use Rattle.ic_hub.specs.Hubbing.{Hubbing, Living}
 use Rattle.ic_hub.specs.Ticking.{Passes, ticked_query}

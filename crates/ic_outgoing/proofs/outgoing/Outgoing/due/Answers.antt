@@ -5,7 +5,7 @@ use Rattle.ic_outgoing.specs.Outgoing.{OutgoingState}
 use Rattle.ic_outgoing.specs.Emitted.{AreOutgoing}
 use Rattle.ic_outgoing.specs.Looking.{Looks}
 use Rattle.ic_outgoing.specs.Standing.{KeepsPackets, GivesPacketUp, Tells}
-use Rattle.ic_outgoing.proofs.Spending.{looks_tell, looks_formed}
+use Rattle.ic_outgoing.proofs.Spending.{looks_tell, looks_formed, looks_increase}
 use Rattle.ic_outgoing.proofs.Looked.{looks_give}
 use Rattle.ic_outgoing.proofs.outgoing.Outgoing.due.Goals as goal
 
@@ -21,3 +21,7 @@ returns-clause-formed c =
 
 pub returns-clause-ok : goal.returns-clause-ok
 returns-clause-ok c = looks_give c.args.self.now c.look.result c.look.ensures
+
+pub returns-clause-order : goal.returns-clause-order
+returns-clause-order c =
+    looks_increase c.self.inside.sender c.self.inside.waits c.self.inside.tick c.look.result c.self.invariant c.bounded.ensures.queue (subst (λ (o : OutgoingState). Looks o c.look.result) (sym c.self.view_is) c.look.ensures)

@@ -1,0 +1,4 @@
+pub mod Network
+pub mod Inside
+pub mod History
+pub mod Laws

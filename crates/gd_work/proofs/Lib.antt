@@ -1,0 +1,5 @@
+pub mod Pieces
+pub mod Sent
+pub mod Taken
+pub mod Whole
+pub mod Interleaving

@@ -1,0 +1,24 @@
+//! The two workers of a gather over a scan: one sends the rows of a segment on one connection, the other takes them
+//! from every sender. No hub, no operator, no thread and no clock; they know of the connections what a [`Port`] says.
+//!
+//! Each `turn` makes at most one call of the port and waits for nothing. A driver takes turns until one answers `Waiting`
+//! or `Done`, and comes back later where it was `Waiting`. After `Done`, and after a refusal, each further turn answers
+//! the same and makes no call.
+//!
+//! Below: `ic_chunk`, `ic_row`, `ic_base`. Above: whoever runs the workers of a query over hubs.
+//!
+//! [`Port`]: ic_base::Port
+#![tactic(auto)]
+
+mod course;
+mod cutter;
+mod gatherer;
+mod laws;
+mod scanner;
+#[cfg(test)]
+mod tests;
+
+pub use course::{Course, Turned, WorkNo};
+pub use gatherer::Gatherer;
+pub use laws::{lets_out_all, puts_all};
+pub use scanner::Scanner;
