@@ -9,7 +9,7 @@ use ic_base::{
     Bytes, ConnEnd, ConnEnds, ConnKey, Parcel, PortAsk, PortEntry, PortNo, PortReply, ScriptPort,
     SegId, Text,
 };
-use ic_row::{Row, Value};
+use ic_row::{Row, Rows, Value};
 use std::alloc::{AllocError, Global};
 use std::test::Fail;
 
@@ -48,6 +48,32 @@ fn hearing(alloc: Global, script: Vec<PortReply>) -> Result<ScriptPort, Fail>
     Ok(ScriptPort::new(alloc, ConnEnds::from_vec(ends), script))
 }
 
+/// One more turn of the scanner of that connection.
+fn scan(
+    alloc: Global,
+    scanner: &mut Scanner,
+    port: &mut ScriptPort,
+    rows: &[Row],
+) -> Result<Turned, WorkNo>
+    requires on { (scanner.old.motion ≡ 1) × (scanner.old.to ≡ negsuc 0) }
+    requires sends { SendsTo port.old.keys 1 (negsuc 0) }
+    requires lengths { All HasLengths rows.now }
+    ensures on { (scanner.new.motion ≡ 1) × (scanner.new.to ≡ negsuc 0) }
+    ensures sends { SendsTo port.new.keys 1 (negsuc 0) }
+{
+    scanner.turn(alloc, port, rows)
+}
+
+/// One more turn of the gatherer of that motion.
+fn gather(alloc: Global, gatherer: &mut Gatherer, port: &mut ScriptPort) -> Result<Turned, WorkNo>
+    requires of { gatherer.old.motion ≡ 1 }
+    requires hears { Hears port.old.keys 1 }
+    ensures of { gatherer.new.motion ≡ 1 }
+    ensures hears { Hears port.new.keys 1 }
+{
+    gatherer.turn(alloc, port)
+}
+
 /// A row of one integer.
 fn int_row(alloc: Global, n: i64) -> Result<Row, AllocError>
     ensures { IfOk result (λ row. HasLengths row) }
@@ -68,6 +94,15 @@ fn text_row(alloc: Global, letters: u16) -> Result<Row, AllocError>
         return Err(AllocError);
     }
     Ok(Row::from_vec(vec![in alloc; Value::Chars(text)]?))
+}
+
+/// Two rows.
+fn two(alloc: Global, first: Row, second: Row) -> Result<Rows, AllocError>
+    requires first { HasLengths first }
+    requires second { HasLengths second }
+    ensures { IfOk result (λ rows. All HasLengths rows) }
+{
+    Ok(Rows::from_vec(vec![in alloc; first, second]?))
 }
 
 /// Was this chunk put?
@@ -110,25 +145,21 @@ fn a_chunk_that_was_full_is_put_again_and_the_stream_is_finished(
     let script = vec![in a;
         PortReply::Refused(PortNo::Full),
         PortReply::Did,
-        PortReply::Refused(PortNo::Busy),
         PortReply::Did,
         PortReply::Did,
     ]?;
     let mut port = sending(a, script)?;
-    let rows = vec![in a; int_row(a, 10)?, int_row(a, 12)?]?;
+    let rows = two(a, int_row(a, 10)?, int_row(a, 12)?)?;
+    let rows = rows.as_slice();
     let mut scanner = Scanner::new(a, 1, SegId::DISPATCHER, 8192)?;
     assert_eq!(rt;
-        scanner.turn(a, &mut port, &rows),
+        scan(a, &mut scanner, &mut port, rows),
         Ok(Turned::Waiting(PortNo::Full))
     );
-    assert_eq!(rt; scanner.turn(a, &mut port, &rows), Ok(Turned::Moved));
-    assert_eq!(rt;
-        scanner.turn(a, &mut port, &rows),
-        Ok(Turned::Waiting(PortNo::Busy))
-    );
-    assert_eq!(rt; scanner.turn(a, &mut port, &rows), Ok(Turned::Moved));
-    assert_eq!(rt; scanner.turn(a, &mut port, &rows), Ok(Turned::Done));
-    assert_eq!(rt; scanner.turn(a, &mut port, &rows), Ok(Turned::Done));
+    assert_eq!(rt; scan(a, &mut scanner, &mut port, rows), Ok(Turned::Moved));
+    assert_eq!(rt; scan(a, &mut scanner, &mut port, rows), Ok(Turned::Moved));
+    assert_eq!(rt; scan(a, &mut scanner, &mut port, rows), Ok(Turned::Done));
+    assert_eq!(rt; scan(a, &mut scanner, &mut port, rows), Ok(Turned::Done));
     assert_eq!(rt; port.left(), 0);
     let [full, first, second, finish] = port.log() else {
         return Err("four calls stand in the log".into());
@@ -150,12 +181,13 @@ fn a_row_of_57_bytes_is_put_in_two_chunks_and_a_stop_ends_the_work(
         PortReply::Did,
     ]?;
     let mut port = sending(a, script)?;
-    let rows = vec![in a; text_row(a, 50)?, int_row(a, 12)?]?;
+    let rows = two(a, text_row(a, 50)?, int_row(a, 12)?)?;
+    let rows = rows.as_slice();
     let mut scanner = Scanner::new(a, 1, SegId::DISPATCHER, 128)?;
-    assert_eq!(rt; scanner.turn(a, &mut port, &rows), Ok(Turned::Moved));
-    assert_eq!(rt; scanner.turn(a, &mut port, &rows), Ok(Turned::Moved));
-    assert_eq!(rt; scanner.turn(a, &mut port, &rows), Ok(Turned::Done));
-    assert_eq!(rt; scanner.turn(a, &mut port, &rows), Ok(Turned::Done));
+    assert_eq!(rt; scan(a, &mut scanner, &mut port, rows), Ok(Turned::Moved));
+    assert_eq!(rt; scan(a, &mut scanner, &mut port, rows), Ok(Turned::Moved));
+    assert_eq!(rt; scan(a, &mut scanner, &mut port, rows), Ok(Turned::Done));
+    assert_eq!(rt; scan(a, &mut scanner, &mut port, rows), Ok(Turned::Done));
     assert_eq!(rt; port.left(), 1);
     let [first, second, third] = port.log() else {
         return Err("three calls stand in the log".into());
@@ -195,16 +227,16 @@ fn a_row_in_two_parcels_comes_out_behind_one_that_ended_before_it(
     ]?;
     let mut port = hearing(a, script)?;
     let mut gatherer = Gatherer::new(a, 1)?;
-    assert_eq!(rt; gatherer.turn(a, &mut port), Ok(Turned::Moved));
+    assert_eq!(rt; gather(a, &mut gatherer, &mut port), Ok(Turned::Moved));
     assert!(rt; gatherer.rows().is_empty());
-    assert_eq!(rt; gatherer.turn(a, &mut port), Ok(Turned::Moved));
+    assert_eq!(rt; gather(a, &mut gatherer, &mut port), Ok(Turned::Moved));
     assert_eq!(rt;
-        gatherer.turn(a, &mut port),
+        gather(a, &mut gatherer, &mut port),
         Ok(Turned::Waiting(PortNo::Empty))
     );
-    assert_eq!(rt; gatherer.turn(a, &mut port), Ok(Turned::Moved));
-    assert_eq!(rt; gatherer.turn(a, &mut port), Ok(Turned::Done));
-    assert_eq!(rt; gatherer.turn(a, &mut port), Ok(Turned::Done));
+    assert_eq!(rt; gather(a, &mut gatherer, &mut port), Ok(Turned::Moved));
+    assert_eq!(rt; gather(a, &mut gatherer, &mut port), Ok(Turned::Done));
+    assert_eq!(rt; gather(a, &mut gatherer, &mut port), Ok(Turned::Done));
     assert_eq!(rt; port.left(), 0);
     assert!(rt; are_two(gatherer.rows().as_slice(), 12, 10));
     Ok(())
@@ -219,8 +251,14 @@ fn an_end_of_a_row_that_has_not_begun_is_malformed_from_then_on(
     let mut port = hearing(a, script)?;
     let mut gatherer = Gatherer::new(a, 1)?;
     let one = SegId::new(1).ok_or("segment 1")?;
-    assert_eq!(rt; gatherer.turn(a, &mut port), Err(WorkNo::Malformed(one)));
-    assert_eq!(rt; gatherer.turn(a, &mut port), Err(WorkNo::Malformed(one)));
+    assert_eq!(rt;
+        gather(a, &mut gatherer, &mut port),
+        Err(WorkNo::Malformed(one))
+    );
+    assert_eq!(rt;
+        gather(a, &mut gatherer, &mut port),
+        Err(WorkNo::Malformed(one))
+    );
     assert_eq!(rt; port.left(), 1);
     assert!(rt; gatherer.into_rows().is_empty());
     Ok(())
