@@ -1,5 +1,5 @@
 -- What a turn answers, and how far a worker is behind it.
-use Rattle.std.specs.Prelude.{◌≡◌, ℕ, ◌≤◌, Result, Ok, Err, Option, Some, None}
+use Rattle.std.specs.Prelude.{◌≡◌, ◌⊎◌, ℕ, ◌≤◌, Result, Ok, Err, Option, Some, None}
 use Rattle.ic_base.specs.declared.port.PortNo.TheVariants.{Busy}
 use Rattle.ic_base.specs.Ports.{BusyRose}
 use Rattle.gd_work.specs.declared.course.Turned.{Turned}
@@ -25,3 +25,7 @@ settled (Refused no_) = Some (Err no_)
 pub record WaitsBusy (before now : ℕ) (result : Result Turned WorkNo) : Type 0 where
   pub later : before ≤ now
   pub rose : result ≡ Ok (turned.Waiting Busy) → BusyRose before now
+
+-- a turn made no call, or one, which changed the port as its calls may
+abbrev pub StepsOnce : {P : Type 0} → (P → P → Type 0) → P → P → Type 0
+StepsOnce steps old new = (new ≡ old) ⊎ steps old new

@@ -5,7 +5,7 @@ ghost use Rattle.ic_base.specs.Ports.{SendsTo};
 ghost use Rattle.ic_row.specs.Spelling.{HasLengths, IsRow};
 ghost use Rattle.gd_work.specs.Sending.{Puts, refused};
 ghost use Rattle.gd_work.specs.Cutting.{unput, IsReady, IsFirst};
-ghost use Rattle.gd_work.specs.Turns.{WaitsBusy};
+ghost use Rattle.gd_work.specs.Turns.{WaitsBusy, StepsOnce};
 
 use crate::course::{Turned, WorkNo};
 use ic_base::{Bytes, Port, PortNo, SegId};
@@ -81,6 +81,7 @@ impl Cutter {
         ensures keys { P.keys port.new ≡ P.keys port.old }
         ensures rows { AllByRecursion IsRow (take self.old.begun rows.now) → AllByRecursion IsRow (take self.new.begun rows.now) }
         ensures busy { WaitsBusy (P.busy port.old) (P.busy port.new) result }
+        ensures steps { StepsOnce P.steps port.old port.new }
         ensures puts { Puts (P.keys port.old) motion to (unput self.old rows.now) (unput self.new rows.now) (P.log port.old) (P.log port.new) result }
     {
         self.fill(alloc, rows)?;

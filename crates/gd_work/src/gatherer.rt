@@ -5,7 +5,7 @@ ghost use Rattle.ic_base.specs.Ports.{Hears};
 ghost use Rattle.gd_work.specs.declared.course.Course.TheVariants.{Going};
 ghost use Rattle.gd_work.specs.declared.course.Turned.{Turned};
 ghost use Rattle.gd_work.specs.declared.course.WorkNo.{WorkNo};
-ghost use Rattle.gd_work.specs.Turns.{course_behind, settled, WaitsBusy};
+ghost use Rattle.gd_work.specs.Turns.{course_behind, settled, WaitsBusy, StepsOnce};
 ghost use Rattle.gd_work.specs.Taking.{place_of, fresh, IsUntaken, Gathers, Takes, Gains, refused, fresh_streams, sender_at};
 
 use crate::course::{Course, Turned, WorkNo};
@@ -64,6 +64,7 @@ impl Gatherer {
         ensures motion { self.new.motion ≡ self.old.motion }
         ensures keys { P.keys port.new ≡ P.keys port.old }
         ensures busy { WaitsBusy (P.busy port.old) (P.busy port.new) result }
+        ensures steps { StepsOnce P.steps port.old port.new }
         ensures course { self.new.course ≡ course_behind result }
 
         // Which call it made, what the log has of it, and what it answers. Once its course is settled, it makes none.
@@ -129,6 +130,7 @@ fn take<P: Port>(
     ensures many { length joiners.new.items ≡ 65 }
     ensures keys { P.keys port.new ≡ P.keys port.old }
     ensures busy { WaitsBusy (P.busy port.old) (P.busy port.new) result }
+    ensures steps { StepsOnce P.steps port.old port.new }
     ensures takes { Takes (P.keys port.old) motion (P.log port.old) (P.log port.new) joiners.old.items joiners.new.items rows.old rows.new result }
 {
     match port.take(alloc, motion) {

@@ -8,7 +8,7 @@ ghost use Rattle.ic_row.specs.Values.{Datum};
 ghost use Rattle.gd_work.specs.declared.course.Course.TheVariants.{Going};
 ghost use Rattle.gd_work.specs.declared.course.Turned.{Turned};
 ghost use Rattle.gd_work.specs.declared.course.WorkNo.{WorkNo};
-ghost use Rattle.gd_work.specs.Turns.{course_behind, settled, WaitsBusy};
+ghost use Rattle.gd_work.specs.Turns.{course_behind, settled, WaitsBusy, StepsOnce};
 ghost use Rattle.gd_work.specs.Sending.{still, cut, fresh, Same, IsUntouched, Scans, Puts};
 
 use crate::course::{Course, Turned, WorkNo};
@@ -78,6 +78,7 @@ impl Scanner {
         ensures same { Same self.old self.new }
         ensures keys { P.keys port.new ≡ P.keys port.old }
         ensures busy { WaitsBusy (P.busy port.old) (P.busy port.new) result }
+        ensures steps { StepsOnce P.steps port.old port.new }
         ensures course { self.new.course ≡ course_behind result }
 
         // Which call it made, what the log has of it, and what it answers. Once its course is settled, it makes none.

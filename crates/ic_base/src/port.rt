@@ -158,10 +158,15 @@ pub trait Port {
     /// How often it was answered `Busy`, or oftener. It never falls, and stands still at its type's end.
     ghost busy: { Self → ℕ };
 
+    /// What one call may make of the port, beyond what the other meanings say. Whoever lends a port of its own type to a
+    /// worker over any port learns from it what a turn did to the rest.
+    ghost steps: { Self → Self → Type 0 };
+
     /// Puts a tuple chunk on the connection of this motion to this segment.
     fn put(&mut self, alloc: Global, motion: u32, to: SegId, chunk: &[u8]) -> Result<(), PortNo>
         requires { SendsTo (keys self.old) motion to }
         ensures keys { keys self.new ≡ keys self.old }
+        ensures steps { steps self.old self.new }
         ensures log { log self.new ≡ logged (Put motion to chunk.now) (did result) (log self.old) }
         ensures busy { CountsBusy (busy self.old) (busy self.new) (did result) }
         ensures refusals { IfErr result (MayRefusePut (keys self.old) motion to) };
@@ -170,6 +175,7 @@ pub trait Port {
     fn finish(&mut self, alloc: Global, motion: u32, to: SegId) -> Result<(), PortNo>
         requires { SendsTo (keys self.old) motion to }
         ensures keys { keys self.new ≡ keys self.old }
+        ensures steps { steps self.old self.new }
         ensures log { log self.new ≡ logged (Finish motion to) (did result) (log self.old) }
         ensures busy { CountsBusy (busy self.old) (busy self.new) (did result) }
         ensures refusals { IfErr result (MayRefusePut (keys self.old) motion to) };
@@ -178,6 +184,7 @@ pub trait Port {
     fn take(&mut self, alloc: Global, motion: u32) -> Result<Parcel, PortNo>
         requires { Hears (keys self.old) motion }
         ensures keys { keys self.new ≡ keys self.old }
+        ensures steps { steps self.old self.new }
         ensures log { log self.new ≡ logged (Take motion) (gave result) (log self.old) }
         ensures busy { CountsBusy (busy self.old) (busy self.new) (gave result) }
         ensures refusals { IfErr result MayRefuseTake }
@@ -187,6 +194,7 @@ pub trait Port {
     fn take_from(&mut self, alloc: Global, motion: u32, sender: SegId) -> Result<Parcel, PortNo>
         requires { HearsFrom (keys self.old) motion sender }
         ensures keys { keys self.new ≡ keys self.old }
+        ensures steps { steps self.old self.new }
         ensures log { log self.new ≡ logged (TakeFrom motion sender) (gave result) (log self.old) }
         ensures busy { CountsBusy (busy self.old) (busy self.new) (gave result) }
         ensures refusals { IfErr result MayRefuseTake }
@@ -196,6 +204,7 @@ pub trait Port {
     fn halt(&mut self, alloc: Global, motion: u32, sender: SegId) -> Result<(), PortNo>
         requires { HearsFrom (keys self.old) motion sender }
         ensures keys { keys self.new ≡ keys self.old }
+        ensures steps { steps self.old self.new }
         ensures log { log self.new ≡ logged (Halt motion sender) (did result) (log self.old) }
         ensures busy { CountsBusy (busy self.old) (busy self.new) (did result) }
         ensures refusals { IfErr result MayRefuseHalt };

@@ -1,5 +1,5 @@
 // A port whose replies are given beforehand.
-ghost use Rattle.std.specs.Prelude.{◌≡◌, ◌↔◌, length, IsTrue, true, IfOk, IfErr, OnOk, OnErr, Ok, Err};
+ghost use Rattle.std.specs.Prelude.{◌≡◌, ◌↔◌, length, drop, IsTrue, true, IfOk, IfErr, OnOk, OnErr, Ok, Err};
 ghost use Rattle.ic_base.specs.declared.port.PortAsk.TheVariants.{Put, Finish, Take, TakeFrom, Halt};
 ghost use Rattle.ic_base.specs.declared.port.PortReply.TheVariants.{Refused};
 ghost use Rattle.ic_base.specs.Ports.{SendsTo, SendsAs, HearsFrom, Hears, did, gave, logged, CountsBusy, MayRefusePut, MayRefuseTake, MayRefuseHalt};
@@ -250,6 +250,8 @@ impl Port for ScriptPort {
     ghost log = { λ p. p.log };
 
     ghost busy = { λ p. p.busy };
+
+    ghost steps = { λ a b. b.left ≡ drop 1 a.left };
 
     fn put(&mut self, alloc: Global, motion: u32, to: SegId, chunk: &[u8]) -> Result<(), PortNo>
         ensures keys { self.new.keys ≡ self.old.keys }

@@ -171,6 +171,7 @@ impl Hub {
         requires ends { AreEnds (place_in self.old) query ends.now }
         ensures err { OnErr result (self.new ≡ self.old) }
         ensures place { SamePlace self.old self.new }
+        ensures count { self.new.dropped ≡ self.old.dropped }
         ensures stands { (h : List Entry) → Stands self.old h → Stands self.new (h ++ begin_entry query ends.now result ∷ []) }
     {
         let Ok(begun) = Query::begin(alloc, query, ends, &self.settings, self.tick) else {

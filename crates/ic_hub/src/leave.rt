@@ -60,6 +60,7 @@ impl Hub {
     pub fn leave(&mut self, query: u32) -> Result<(), LeaveNo>
         ensures err { OnErr result (self.new ≡ self.old) }
         ensures place { SamePlace self.old self.new }
+        ensures count { self.new.dropped ≡ self.old.dropped }
         ensures stands { (h : List Entry) → Stands self.old h → Stands self.new (h ++ leave_entry query result ∷ []) }
     {
         let Some(place) = self.place_of(query) else {

@@ -49,6 +49,7 @@ impl Hub {
         requires chunk { IsPuttable (place_in self.old) chunk.now }
         ensures err { OnErr result (self.new ≡ self.old) }
         ensures place { SamePlace self.old self.new }
+        ensures count { self.new.dropped ≡ self.old.dropped }
         ensures stands { (h : List Entry) → Stands self.old h → Stands self.new (h ++ put_entry key.now chunk.now result ∷ []) }
     {
         let Some((query, place)) = self.sender_of(key) else {
@@ -64,6 +65,7 @@ impl Hub {
     pub fn finish(&mut self, alloc: Global, key: &ConnKey) -> Result<Datagrams, HubNo>
         ensures err { OnErr result (self.new ≡ self.old) }
         ensures place { SamePlace self.old self.new }
+        ensures count { self.new.dropped ≡ self.old.dropped }
         ensures stands { (h : List Entry) → Stands self.old h → Stands self.new (h ++ finish_entry key.now result ∷ []) }
     {
         let Some((query, place)) = self.sender_of(key) else {

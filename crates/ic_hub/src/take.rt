@@ -175,6 +175,7 @@ impl Hub {
     ) -> Result<(Parcel, Datagrams), HubNo>
         ensures err { OnErr result (self.new ≡ self.old) }
         ensures place { SamePlace self.old self.new }
+        ensures count { self.new.dropped ≡ self.old.dropped }
         ensures stands { (h : List Entry) → Stands self.old h → Stands self.new (h ++ take_entry query motion result ∷ []) }
     {
         let Some(place) = self.place_of(query) else {
@@ -190,6 +191,7 @@ impl Hub {
     pub fn take_from(&mut self, alloc: Global, key: &ConnKey) -> Result<(Parcel, Datagrams), HubNo>
         ensures err { OnErr result (self.new ≡ self.old) }
         ensures place { SamePlace self.old self.new }
+        ensures count { self.new.dropped ≡ self.old.dropped }
         ensures stands { (h : List Entry) → Stands self.old h → Stands self.new (h ++ take_from_entry key.now result ∷ []) }
     {
         let Some((query, place)) = self.receiver_of(key) else {
@@ -205,6 +207,7 @@ impl Hub {
     pub fn halt(&mut self, alloc: Global, key: &ConnKey) -> Result<Datagrams, HubNo>
         ensures err { OnErr result (self.new ≡ self.old) }
         ensures place { SamePlace self.old self.new }
+        ensures count { self.new.dropped ≡ self.old.dropped }
         ensures stands { (h : List Entry) → Stands self.old h → Stands self.new (h ++ halt_entry key.now result ∷ []) }
     {
         let Some((query, place)) = self.receiver_of(key) else {

@@ -205,6 +205,7 @@ impl Hub {
     pub fn tick(&mut self, alloc: Global) -> Result<Datagrams, TickNo>
         ensures err { OnErr result (self.new ≡ self.old) }
         ensures place { SamePlace self.old self.new }
+        ensures count { self.new.dropped ≡ self.old.dropped }
         ensures stands { (h : List Entry) → Stands self.old h → Stands self.new (h ++ tick_entry result ∷ []) }
     {
         let mut datagrams = Datagrams::new(alloc);

@@ -1,6 +1,6 @@
 // Asks to a hub, its replies, and lists of both.
 ghost use Rattle.std.specs.Prelude.{◌≡◌, ℕ, List, [], ◌∷◌, ◌++◌, length, replicate, OnOk, OnErr, IfOk, ◌<◌};
-ghost use Rattle.ic_law.specs.History.{noted};
+ghost use Rattle.ic_law.specs.History.{noted, datagrams_of};
 
 use ic_base::{BeginNo, Bytes, ConnEnds, ConnKey, Datagram, Datagrams, Parcel};
 use ic_header::HeaderFault;
@@ -113,6 +113,21 @@ pub enum HubReply {
     Memory,
 }
 
+impl HubReply {
+    /// The datagrams that are emitted with it.
+    pub fn datagrams(&self) -> &[Datagram]
+        ensures { result.now ≡ datagrams_of self.now }
+    {
+        match self {
+            HubReply::Gave(Ok(datagrams))
+            | HubReply::Took(Ok((_, datagrams)))
+            | HubReply::Came(_, datagrams)
+            | HubReply::Ticked(Ok(datagrams)) => datagrams.as_slice(),
+            _ => &[],
+        }
+    }
+}
+
 /// One ask with its reply.
 #[derive(Drop)]
 pub struct Entry {
@@ -143,6 +158,13 @@ impl History {
         History {
             entries: Vec::new(alloc),
         }
+    }
+
+    /// Takes no memory.
+    pub fn from_vec(entries: Vec<Entry>) -> History
+        ensures { result ≡ entries.items }
+    {
+        History { entries }
     }
 
     pub fn as_slice(&self) -> &[Entry]
@@ -188,6 +210,13 @@ impl Histories {
             histories.nodes.push(History::new(alloc))?;
         }
         Ok(histories)
+    }
+
+    /// Takes no memory.
+    pub fn from_vec(nodes: Vec<History>) -> Histories
+        ensures { result ≡ nodes.items }
+    {
+        Histories { nodes }
     }
 
     pub fn as_slice(&self) -> &[History]
