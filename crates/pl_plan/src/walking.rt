@@ -82,13 +82,8 @@ pub fn walk(
             project(alloc, columns.as_slice(), child, up, number)
         }
         Node::Limit { count, child } => {
-            let child = walk(
-                alloc,
-                child.get(),
-                schemas,
-                up.under_limit(*count),
-                number + 1,
-            )?;
+            let below = up.under_limit(*count);
+            let child = walk(alloc, child.get(), schemas, below, number + 1)?;
             limit(alloc, *count, child, up, number)
         }
         Node::Sort { keys, child } => {
@@ -117,13 +112,8 @@ pub fn walk(
             stage: Stage::Final,
             child,
         } => {
-            let facts = walk(
-                alloc,
-                child.get(),
-                schemas,
-                Above::under_final(),
-                number + 1,
-            )?;
+            let below = Above::under_final();
+            let facts = walk(alloc, child.get(), schemas, below, number + 1)?;
             finish(alloc, group_width_of(child.get()), facts, up, number)
         }
         Node::Gather { order, child } => {
