@@ -36,11 +36,11 @@ PutsAgree =
     (session : ℕ) (at : ℤ) (settings : Settings) (h : List Entry) (c : ConnKey)
     → AreOurs session at settings h → c.session ≡ session → c.from ≡ at → SaysPut c h
 
--- so it is for one that ends here
+-- so it is for one that ends here, where the hub keeps its law: a parcel is from the segment that it was asked of
 abbrev pub TakesAgree : Type 0
 TakesAgree =
     (session : ℕ) (at : ℤ) (settings : Settings) (h : List Entry) (c : ConnKey)
-    → AreOurs session at settings h → c.session ≡ session → c.to ≡ at
+    → HubLaw (place_at session at settings) h → AreOurs session at settings h → c.session ≡ session → c.to ≡ at
     → payloads_of c h ≡ payloads_from c.from (parcels_of c.motion (log_of c.query h))
 
 -- ---- queries
