@@ -9,6 +9,7 @@ use Rattle.ic_base.specs.declared.keys.ConnKey.{ConnKey}
 use Rattle.ic_base.specs.declared.keys.ConnEnd.{ConnEnd}
 use Rattle.ic_base.specs.declared.datagram.Datagram.{Datagram}
 use Rattle.ic_base.specs.declared.datagram.Parcel.{Parcel}
+use Rattle.ic_base.specs.declared.port.PortNo.{PortNo}
 use Rattle.ic_base.specs.declared.port.PortAsk.{PortAsk}
 use Rattle.ic_base.specs.declared.port.PortAsk.TheVariants as ask
 use Rattle.ic_base.specs.declared.port.PortReply.{PortReply}
@@ -57,6 +58,18 @@ ends_here key c session to =
     and_true false = refl
 
 -- ---- choices
+
+differ : false ≡ true → ⊥
+differ h = cc
+
+both : (a b : Bool) → (a && b) ≡ true → (a ≡ true) × (b ≡ true)
+both true true h = (refl, refl)
+both true false h = absurd (differ h)
+both false b h = absurd (differ h)
+
+either : (a b : Bool) → (a || b) ≡ true → (a ≡ true) ⊎ (b ≡ true)
+either true b h = inl refl
+either false b h = inr h
 
 chosen : {A : Type 0} (b : Bool) (x : A) → cond (b && true) (x ∷ []) [] ≡ cond b (x ∷ []) [] ++ []
 chosen true x = refl
@@ -147,5 +160,174 @@ chosen_asks : (asked : PortAsk) (b : Bool) (log : List PortEntry) → AllByRecur
 chosen_asks asked true log all = all
 chosen_asks asked false log all = tt
 
+-- ---- an entry's puts
+
+entry_puts : (place : Place) (c : ConnKey) (asked : HubAsk) (replied : HubReply) → IsOurs place asked → c.session ≡ place.session → c.from ≡ place.at
+    → chunk_put c asked replied ≡ sending.puts_of c.motion c.to (logs_by c.query asked replied)
+entry_puts place c (Begin q ends) replied ours session at = refl
+entry_puts place c (Put key chunk) replied ours session at =
+    ap (λ b. cond (b && was_given replied) (chunk ∷ []) []) (sent_here key c (ours.session ∙ sym session) (ours.from ∙ sym at))
+    ∙ one_put key c chunk replied (key.query == c.query)
+entry_puts place c (Finish key) replied ours session at =
+    sym (puts_none c.motion c.to (ask.Finish key.motion key.to) _ (λ r. refl) (chosen_asks _ (key.query == c.query) _ (put_asks (ask.Finish key.motion key.to) key replied)))
+entry_puts place c (Take q motion) replied ours session at =
+    sym (puts_none c.motion c.to (ask.Take motion) _ (λ r. refl) (chosen_asks _ (q == c.query) _ (take_asks (ask.Take motion) replied)))
+entry_puts place c (TakeFrom key) replied ours session at =
+    sym (puts_none c.motion c.to (ask.TakeFrom key.motion key.from) _ (λ r. refl) (chosen_asks _ (key.query == c.query) _ (take_asks (ask.TakeFrom key.motion key.from) replied)))
+entry_puts place c (Halt key) replied ours session at =
+    sym (puts_none c.motion c.to (ask.Halt key.motion key.from) _ (λ r. refl) (chosen_asks _ (key.query == c.query) _ (halt_asks (ask.Halt key.motion key.from) replied)))
+entry_puts place c (Arrive d) replied ours session at = refl
+entry_puts place c Tick replied ours session at = refl
+entry_puts place c (Clear q) replied ours session at = refl
+entry_puts place c (Leave q) replied ours session at = refl
+
+all_puts : (place : Place) (c : ConnKey) (h : List Entry) → AllByRecursion (λ e. IsOurs place e.ask) h → c.session ≡ place.session → c.from ≡ place.at
+    → chunks_put_of c h ≡ sending.puts_of c.motion c.to (log_of c.query h)
+all_puts place c [] ours session at = refl
+all_puts place c (e ∷ h) ours session at =
+    ap (λ l. l ++ chunks_put_of c h) (entry_puts place c e.ask e.reply ours.0 session at)
+    ∙ ap (λ l. sending.puts_of c.motion c.to (logs c.query e) ++ l) (all_puts place c h ours.1 session at)
+    ∙ sym (flat_map-append (sending.put_in c.motion c.to) (logs c.query e) (log_of c.query h))
+
+-- ---- ends that were put
+
+any_left : {X : Type 0} (P : X → Type 0) (xs ys : List X) → Any P xs → Any P (xs ++ ys)
+any_left P [] ys (k, x, lt, is, p) = absurd (omega (arith, lt))
+any_left P (y ∷ xs) ys (zero, x, lt, is, p) = (0, x, omega arith, is, p)
+any_left P (y ∷ xs) ys (suc k, x, lt, is, p) = let w = any_left P xs ys (k, x, omega (arith, lt), is, p) in (suc w.0, w.1, omega (arith, w.2), w.3, w.4)
+
+any_right : {X : Type 0} (P : X → Type 0) (xs ys : List X) → Any P ys → Any P (xs ++ ys)
+any_right P [] ys any = any
+any_right P (y ∷ xs) ys any = let w = any_right P xs ys any in (suc w.0, w.1, omega (arith, w.2), w.3, w.4)
+
+any_either : {X : Type 0} (P : X → Type 0) (xs ys : List X) → Any P (xs ++ ys) → Any P xs ⊎ Any P ys
+any_either P [] ys any = inr any
+any_either P (y ∷ xs) ys (zero, x, lt, is, p) = inl (0, x, omega arith, is, p)
+any_either P (y ∷ xs) ys (suc k, x, lt, is, p) =
+    elim (any_either P xs ys (k, x, omega (arith, lt), is, p)) [ inl w ↦ inl (suc w.0, w.1, omega (arith, w.2), w.3, w.4) | inr w ↦ inr w ]
+
+any_none : {X : Type 0} (P : X → Type 0) → Any P [] → ⊥
+any_none P (k, x, lt, is, p) = omega (arith, lt)
+
+-- one that holds is of the ask that all are of
+any_asks : (motion : ℕ) (to : ℤ) (asked : PortAsk) (log : List PortEntry) → AllByRecursion (λ (e : PortEntry). e.ask ≡ asked) log
+    → sending.IsFinished motion to log → asked ≡ ask.Finish motion to
+any_asks motion to asked [] all any = absurd (any_none (sending.Finishes motion to) any)
+any_asks motion to asked (e ∷ log) all (zero, x, lt, is, p) = sym all.0 ∙ ap (λ (y : PortEntry). y.ask) is ∙ p.0
+any_asks motion to asked (e ∷ log) all (suc k, x, lt, is, p) = any_asks motion to asked log all.1 (k, x, omega (arith, lt), is, p)
+
+finishes_there : (c : ConnKey) (replied : HubReply) → was_given replied ≡ true → sending.IsFinished c.motion c.to (put_logs (ask.Finish c.motion c.to) c replied)
+finishes_there c (Gave (Ok ds)) given = (0, _, omega arith, refl, (refl, refl))
+finishes_there c (Gave (Err refusal)) given = absurd (differ given)
+finishes_there c (Begun r) given = absurd (differ given)
+finishes_there c (Took r) given = absurd (differ given)
+finishes_there c (Came how ds) given = absurd (differ given)
+finishes_there c (Ticked r) given = absurd (differ given)
+finishes_there c (Cleared r) given = absurd (differ given)
+finishes_there c (Left r) given = absurd (differ given)
+finishes_there c Memory given = absurd (differ given)
+
+only_one : {X : Type 0} (P : X → Type 0) (x : X) → Any P (x ∷ []) → P x
+only_one P x (zero, y, lt, is, p) = subst P (sym is) p
+only_one P x (suc k, y, lt, is, p) = absurd (omega (arith, lt))
+
+refused_no : (motion : ℕ) (to : ℤ) (asked : PortAsk) (why : PortNo) → sending.IsFinished motion to (record { ask = asked; reply = reply.Refused why } ∷ []) → ⊥
+refused_no motion to asked why any = let bad : reply.Refused why ≡ reply.Did = (only_one (sending.Finishes motion to) _ any).1 in cc
+
+was_given_there : (motion : ℕ) (to : ℤ) (asked : PortAsk) (key : ConnKey) (replied : HubReply) → sending.IsFinished motion to (put_logs asked key replied) → was_given replied ≡ true
+was_given_there motion to asked key (Gave (Ok ds)) any = refl
+was_given_there motion to asked key (Gave (Err no.Full)) any = absurd (refused_no motion to asked _ any)
+was_given_there motion to asked key (Gave (Err no.Stopped)) any = absurd (refused_no motion to asked _ any)
+was_given_there motion to asked key (Gave (Err (no.TooLong which))) any = absurd (refused_no motion to asked _ any)
+was_given_there motion to asked key (Gave (Err no.Empty)) any = absurd (any_none (sending.Finishes motion to) any)
+was_given_there motion to asked key (Gave (Err no.Ended)) any = absurd (any_none (sending.Finishes motion to) any)
+was_given_there motion to asked key (Gave (Err (no.Unknown query m))) any = absurd (any_none (sending.Finishes motion to) any)
+was_given_there motion to asked key (Gave (Err no.Memory)) any = absurd (any_none (sending.Finishes motion to) any)
+was_given_there motion to asked key (Begun r) any = absurd (any_none (sending.Finishes motion to) any)
+was_given_there motion to asked key (Took r) any = absurd (any_none (sending.Finishes motion to) any)
+was_given_there motion to asked key (Came how ds) any = absurd (any_none (sending.Finishes motion to) any)
+was_given_there motion to asked key (Ticked r) any = absurd (any_none (sending.Finishes motion to) any)
+was_given_there motion to asked key (Cleared r) any = absurd (any_none (sending.Finishes motion to) any)
+was_given_there motion to asked key (Left r) any = absurd (any_none (sending.Finishes motion to) any)
+was_given_there motion to asked key Memory any = absurd (any_none (sending.Finishes motion to) any)
+
+-- a finish in the history is one in the log
+entry_to_log : (c : ConnKey) (asked : HubAsk) (replied : HubReply) → is_finish c asked replied ≡ true → sending.IsFinished c.motion c.to (logs_by c.query asked replied)
+entry_to_log c (Finish key) replied h =
+    let w = both (key_eq key c) (was_given replied) h in
+    subst (λ (k : ConnKey). sending.IsFinished c.motion c.to (cond (k.query == c.query) (put_logs (ask.Finish k.motion k.to) k replied) [])) (sym (key_eq-tells key c w.0))
+    (subst (λ b. sending.IsFinished c.motion c.to (cond b (put_logs (ask.Finish c.motion c.to) c replied) [])) (sym ((Decides-eqb c.query c.query).1 refl)) (finishes_there c replied w.1))
+entry_to_log c (Begin q ends) replied h = absurd (differ h)
+entry_to_log c (Put key chunk) replied h = absurd (differ h)
+entry_to_log c (Take q motion) replied h = absurd (differ h)
+entry_to_log c (TakeFrom key) replied h = absurd (differ h)
+entry_to_log c (Halt key) replied h = absurd (differ h)
+entry_to_log c (Arrive d) replied h = absurd (differ h)
+entry_to_log c Tick replied h = absurd (differ h)
+entry_to_log c (Clear q) replied h = absurd (differ h)
+entry_to_log c (Leave q) replied h = absurd (differ h)
+
+-- and so it is the other way round
+finish_back : (key c : ConnKey) (replied : HubReply) (b : Bool) → (key.query == c.query) ≡ b → key.session ≡ c.session → key.from ≡ c.from
+    → sending.IsFinished c.motion c.to (cond b (put_logs (ask.Finish key.motion key.to) key replied) []) → (key_eq key c && was_given replied) ≡ true
+finish_back key c replied false is session from any = absurd (any_none (sending.Finishes c.motion c.to) any)
+finish_back key c replied true is session from any =
+    let asked : ask.Finish key.motion key.to ≡ ask.Finish c.motion c.to = any_asks c.motion c.to (ask.Finish key.motion key.to) _ (put_asks (ask.Finish key.motion key.to) key replied) any in
+    let motion : key.motion ≡ c.motion = cc in
+    let to : key.to ≡ c.to = cc in
+    ap (λ b. b && was_given replied) (sent_here key c session from)
+    ∙ ap (λ b. (b && ((key.motion == c.motion) && int_eq key.to c.to)) && was_given replied) is
+    ∙ ap (λ b. (b && int_eq key.to c.to) && was_given replied) ((Decides-eqb key.motion c.motion).1 motion)
+    ∙ ap (λ b. b && was_given replied) ((Decides-int_eq key.to c.to).1 to)
+    ∙ was_given_there c.motion c.to (ask.Finish key.motion key.to) key replied any
+
+entry_from_log : (place : Place) (c : ConnKey) (asked : HubAsk) (replied : HubReply) → IsOurs place asked → c.session ≡ place.session → c.from ≡ place.at
+    → sending.IsFinished c.motion c.to (logs_by c.query asked replied) → is_finish c asked replied ≡ true
+entry_from_log place c (Finish key) replied ours session at any =
+    finish_back key c replied (key.query == c.query) refl (ours.session ∙ sym session) (ours.from ∙ sym at) any
+entry_from_log place c (Begin q ends) replied ours session at any = absurd (any_none (sending.Finishes c.motion c.to) any)
+entry_from_log place c (Put key chunk) replied ours session at any =
+    let bad : ask.Put key.motion key.to chunk ≡ ask.Finish c.motion c.to
+        = any_asks c.motion c.to (ask.Put key.motion key.to chunk) _ (chosen_asks _ (key.query == c.query) _ (put_asks (ask.Put key.motion key.to chunk) key replied)) any in cc
+entry_from_log place c (Take q motion) replied ours session at any =
+    let bad : ask.Take motion ≡ ask.Finish c.motion c.to = any_asks c.motion c.to (ask.Take motion) _ (chosen_asks _ (q == c.query) _ (take_asks (ask.Take motion) replied)) any in cc
+entry_from_log place c (TakeFrom key) replied ours session at any =
+    let bad : ask.TakeFrom key.motion key.from ≡ ask.Finish c.motion c.to
+        = any_asks c.motion c.to (ask.TakeFrom key.motion key.from) _ (chosen_asks _ (key.query == c.query) _ (take_asks (ask.TakeFrom key.motion key.from) replied)) any in cc
+entry_from_log place c (Halt key) replied ours session at any =
+    let bad : ask.Halt key.motion key.from ≡ ask.Finish c.motion c.to
+        = any_asks c.motion c.to (ask.Halt key.motion key.from) _ (chosen_asks _ (key.query == c.query) _ (halt_asks (ask.Halt key.motion key.from) replied)) any in cc
+entry_from_log place c (Arrive d) replied ours session at any = absurd (any_none (sending.Finishes c.motion c.to) any)
+entry_from_log place c Tick replied ours session at any = absurd (any_none (sending.Finishes c.motion c.to) any)
+entry_from_log place c (Clear q) replied ours session at any = absurd (any_none (sending.Finishes c.motion c.to) any)
+entry_from_log place c (Leave q) replied ours session at any = absurd (any_none (sending.Finishes c.motion c.to) any)
+
+finished_to_log : (c : ConnKey) (h : List Entry) → IsFinished c h → sending.IsFinished c.motion c.to (log_of c.query h)
+finished_to_log c [] is = absurd (differ is)
+finished_to_log c (e ∷ h) is =
+    elim (either (finishes c e) (finished_of c h) is) [
+      | inl w ↦ any_left (sending.Finishes c.motion c.to) (logs c.query e) (log_of c.query h) (entry_to_log c e.ask e.reply w)
+      | inr w ↦ any_right (sending.Finishes c.motion c.to) (logs c.query e) (log_of c.query h) (finished_to_log c h w)
+    ]
+
+or_left : (a b : Bool) → a ≡ true → (a || b) ≡ true
+or_left a b h = ap (λ x. x || b) h
+
+or_right : (a b : Bool) → b ≡ true → (a || b) ≡ true
+or_right true b h = refl
+or_right false b h = h
+
+finished_from_log : (place : Place) (c : ConnKey) (h : List Entry) → AllByRecursion (λ e. IsOurs place e.ask) h → c.session ≡ place.session → c.from ≡ place.at
+    → sending.IsFinished c.motion c.to (log_of c.query h) → IsFinished c h
+finished_from_log place c [] ours session at any = absurd (any_none (sending.Finishes c.motion c.to) any)
+finished_from_log place c (e ∷ h) ours session at any =
+    elim (any_either (sending.Finishes c.motion c.to) (logs c.query e) (log_of c.query h) any) [
+      | inl w ↦ or_left (finishes c e) (finished_of c h) (entry_from_log place c e.ask e.reply ours.0 session at w)
+      | inr w ↦ or_right (finishes c e) (finished_of c h) (finished_from_log place c h ours.1 session at w)
+    ]
+
 pub puts_agree : PutsAgree
-puts_agree session at settings h c ours same here = ?
+puts_agree session at settings h c ours same here = record {
+  chunks = all_puts (place_at session at settings) c h ours same here;
+  finished = (finished_to_log c h, finished_from_log (place_at session at settings) c h ours same here);
+}
