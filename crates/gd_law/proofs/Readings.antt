@@ -331,3 +331,148 @@ puts_agree session at settings h c ours same here = record {
   chunks = all_puts (place_at session at settings) c h ours same here;
   finished = (finished_to_log c h, finished_from_log (place_at session at settings) c h ours same here);
 }
+
+-- ---- parcels that were taken
+
+-- the payloads of these parcels, as the log has those of one sender
+payload_of_one : (p : Parcel) (from : ℤ) (b : Bool) → map payload_in (cond b (cond (int_eq p.from from) (p ∷ []) []) []) ≡ taking.payloads_from from (cond b (p ∷ []) [] ++ [])
+payload_of_one p from false = refl
+payload_of_one p from true = by (int_eq p.from from)
+  where
+    by : (i : Bool) → map payload_in (cond i (p ∷ []) []) ≡ cond i (p.payload ∷ []) [] ++ []
+    by true = refl
+    by false = refl
+
+none_taken : (b : Bool) → map payload_in (cond b [] []) ≡ []
+none_taken true = refl
+none_taken false = refl
+
+-- where each entry is of its ask, and the ask takes nothing, nothing is taken
+parcels_none : (motion : ℕ) (asked : PortAsk) (log : List PortEntry) → ((r : PortReply) → taking.parcel_by motion asked r ≡ [])
+    → AllByRecursion (λ (e : PortEntry). e.ask ≡ asked) log → taking.parcels_of motion log ≡ []
+parcels_none motion asked [] none all = refl
+parcels_none motion asked (e ∷ log) none all =
+    ap (λ l. l ++ taking.parcels_of motion log) (ap (λ a. taking.parcel_by motion a e.reply) all.0 ∙ none e.reply) ∙ parcels_none motion asked log none all.1
+
+no_payloads : (motion : ℕ) (from : ℤ) (asked : PortAsk) (log : List PortEntry) → ((r : PortReply) → taking.parcel_by motion asked r ≡ [])
+    → AllByRecursion (λ (e : PortEntry). e.ask ≡ asked) log → [] ≡ taking.payloads_from from (taking.parcels_of motion log)
+no_payloads motion from asked log none all = sym (ap (taking.payloads_from from) (parcels_none motion asked log none all))
+
+take_any : (c : ConnKey) (motion : ℕ) (replied : HubReply) (same : Bool)
+    → map payload_in (cond (same && (motion == c.motion)) (parcels_from c.from (parcels_in replied)) [])
+    ≡ taking.payloads_from c.from (taking.parcels_of c.motion (cond same (take_logs (ask.Take motion) replied) []))
+take_any c motion replied false = refl
+take_any c motion (Took (Ok r)) true = payload_of_one r.0 c.from (motion == c.motion)
+take_any c motion (Took (Err no.Empty)) true = none_taken (motion == c.motion)
+take_any c motion (Took (Err no.Ended)) true = none_taken (motion == c.motion)
+take_any c motion (Took (Err no.Full)) true = none_taken (motion == c.motion)
+take_any c motion (Took (Err no.Stopped)) true = none_taken (motion == c.motion)
+take_any c motion (Took (Err (no.TooLong which))) true = none_taken (motion == c.motion)
+take_any c motion (Took (Err (no.Unknown query m))) true = none_taken (motion == c.motion)
+take_any c motion (Took (Err no.Memory)) true = none_taken (motion == c.motion)
+take_any c motion (Begun r) true = none_taken (motion == c.motion)
+take_any c motion (Gave r) true = none_taken (motion == c.motion)
+take_any c motion (Came how ds) true = none_taken (motion == c.motion)
+take_any c motion (Ticked r) true = none_taken (motion == c.motion)
+take_any c motion (Cleared r) true = none_taken (motion == c.motion)
+take_any c motion (Left r) true = none_taken (motion == c.motion)
+take_any c motion Memory true = none_taken (motion == c.motion)
+
+-- a parcel that a take from one sender gave is from that one
+FromIts : HubAsk → HubReply → Type 0
+FromIts asked replied = (key : ConnKey) (p : Parcel) (ds : List Datagram) → asked ≡ TakeFrom key → replied ≡ Took (Ok (p, ds)) → p.from ≡ key.from
+
+take_one : (c key : ConnKey) (replied : HubReply) (same : Bool) → FromIts (TakeFrom key) replied
+    → map payload_in (cond (same && ((key.motion == c.motion) && int_eq key.from c.from)) (parcels_in replied) [])
+    ≡ taking.payloads_from c.from (taking.parcels_of c.motion (cond same (take_logs (ask.TakeFrom key.motion key.from) replied) []))
+unfolding FromIts
+take_one c key replied false its = refl
+take_one c key (Took (Ok r)) true its =
+    ap (λ f. map payload_in (cond ((key.motion == c.motion) && int_eq f c.from) (r.0 ∷ []) [])) (sym (its key r.0 r.1 refl refl))
+    ∙ ap (map payload_in) (nested (key.motion == c.motion) (int_eq r.0.from c.from) (r.0 ∷ []))
+    ∙ payload_of_one r.0 c.from (key.motion == c.motion)
+  where
+    nested : {A : Type 0} (a b : Bool) (xs : List A) → cond (a && b) xs [] ≡ cond a (cond b xs []) []
+    nested true b xs = refl
+    nested false b xs = refl
+take_one c key (Took (Err no.Empty)) true its = none_taken ((key.motion == c.motion) && int_eq key.from c.from)
+take_one c key (Took (Err no.Ended)) true its = none_taken ((key.motion == c.motion) && int_eq key.from c.from)
+take_one c key (Took (Err no.Full)) true its = none_taken ((key.motion == c.motion) && int_eq key.from c.from)
+take_one c key (Took (Err no.Stopped)) true its = none_taken ((key.motion == c.motion) && int_eq key.from c.from)
+take_one c key (Took (Err (no.TooLong which))) true its = none_taken ((key.motion == c.motion) && int_eq key.from c.from)
+take_one c key (Took (Err (no.Unknown query m))) true its = none_taken ((key.motion == c.motion) && int_eq key.from c.from)
+take_one c key (Took (Err no.Memory)) true its = none_taken ((key.motion == c.motion) && int_eq key.from c.from)
+take_one c key (Begun r) true its = none_taken ((key.motion == c.motion) && int_eq key.from c.from)
+take_one c key (Gave r) true its = none_taken ((key.motion == c.motion) && int_eq key.from c.from)
+take_one c key (Came how ds) true its = none_taken ((key.motion == c.motion) && int_eq key.from c.from)
+take_one c key (Ticked r) true its = none_taken ((key.motion == c.motion) && int_eq key.from c.from)
+take_one c key (Cleared r) true its = none_taken ((key.motion == c.motion) && int_eq key.from c.from)
+take_one c key (Left r) true its = none_taken ((key.motion == c.motion) && int_eq key.from c.from)
+take_one c key Memory true its = none_taken ((key.motion == c.motion) && int_eq key.from c.from)
+
+entry_takes : (place : Place) (c : ConnKey) (asked : HubAsk) (replied : HubReply) → IsOurs place asked → FromIts asked replied → c.session ≡ place.session → c.to ≡ place.at
+    → map payload_in (parcel_for c asked replied) ≡ taking.payloads_from c.from (taking.parcels_of c.motion (logs_by c.query asked replied))
+entry_takes place c (Begin q ends) replied ours its session at = refl
+entry_takes place c (Put key chunk) replied ours its session at =
+    no_payloads c.motion c.from (ask.Put key.motion key.to chunk) _ (λ r. refl) (chosen_asks _ (key.query == c.query) _ (put_asks (ask.Put key.motion key.to chunk) key replied))
+entry_takes place c (Finish key) replied ours its session at =
+    no_payloads c.motion c.from (ask.Finish key.motion key.to) _ (λ r. refl) (chosen_asks _ (key.query == c.query) _ (put_asks (ask.Finish key.motion key.to) key replied))
+entry_takes place c (Take q motion) replied ours its session at = take_any c motion replied (q == c.query)
+entry_takes place c (TakeFrom key) replied ours its session at =
+    ap (λ b. map payload_in (cond b (parcels_in replied) [])) (ends_here key c (ours.session ∙ sym session) (ours.to ∙ sym at))
+    ∙ take_one c key replied (key.query == c.query) its
+entry_takes place c (Halt key) replied ours its session at =
+    no_payloads c.motion c.from (ask.Halt key.motion key.from) _ (λ r. refl) (chosen_asks _ (key.query == c.query) _ (halt_asks (ask.Halt key.motion key.from) replied))
+entry_takes place c (Arrive d) replied ours its session at = refl
+entry_takes place c Tick replied ours its session at = refl
+entry_takes place c (Clear q) replied ours its session at = refl
+entry_takes place c (Leave q) replied ours its session at = refl
+
+all_takes : (place : Place) (c : ConnKey) (h : List Entry) → AllByRecursion (λ e. IsOurs place e.ask) h → AllByRecursion (λ e. FromIts e.ask e.reply) h
+    → c.session ≡ place.session → c.to ≡ place.at → payloads_of c h ≡ taking.payloads_from c.from (taking.parcels_of c.motion (log_of c.query h))
+all_takes place c [] ours its session at = refl
+all_takes place c (e ∷ h) ours its session at =
+    let here = taking.parcels_of c.motion (logs c.query e) in
+    let later = taking.parcels_of c.motion (log_of c.query h) in
+    map-append payload_in (takes c e) (parcels_of c h)
+    ∙ ap (λ l. l ++ payloads_of c h) (entry_takes place c e.ask e.reply ours.0 its.0 session at)
+    ∙ ap (λ l. taking.payloads_from c.from here ++ l) (all_takes place c h ours.1 its.1 session at)
+    ∙ sym (flat_map-append (taking.payload_in c.from) here later)
+    ∙ ap (taking.payloads_from c.from) (sym (flat_map-append (taking.parcel_in c.motion) (logs c.query e) (log_of c.query h)))
+
+-- ---- what the hub's law tells of it
+
+taken_from : (end : ConnEnd) (before : List Entry) (replied : HubReply) (p : Parcel) (ds : List Datagram) → AnswersTake end before replied → replied ≡ Took (Ok (p, ds)) → p.from ≡ end.key.from
+taken_from end before replied p ds (Over ended is) took = let bad : Took (Err no.Ended) ≡ Took (Ok (p, ds)) = sym is ∙ took in cc
+taken_from end before replied p ds (NothingNext going nothing is) took = let bad : Took (Err no.Empty) ≡ Took (Ok (p, ds)) = sym is ∙ took in cc
+taken_from end before replied p ds (Taken going parcel told taken is) took =
+    let w : parcel ∷ [] ≡ p ∷ [] = ap parcels_in (sym is ∙ took) in
+    let same : parcel ≡ p = cc in
+    subst (λ (x : Parcel). x.from ≡ end.key.from) same taken.from
+
+its_own : (place : Place) (before : List Entry) (e : Entry) → HubPoint place before e → FromIts e.ask e.reply
+unfolding FromIts
+its_own place before e point key p ds asked took = by (int_eq p.from key.from) refl
+  where
+    by : (b : Bool) → int_eq p.from key.from ≡ b → p.from ≡ key.from
+    by true is = (Decides-int_eq p.from key.from).0 is
+    by false is = absurd (unknown (point.known.take_from key asked not_there remembered))
+      where
+        remembered : e.reply ≡ Memory → ⊥
+        remembered h = let bad : Memory ≡ Took (Ok (p, ds)) = sym h ∙ took in cc
+
+        not_there : (end : ConnEnd) → IsHere end before → end.key ≡ key → end.sending ≡ false → ⊥
+        not_there end here same side =
+            differ (sym is ∙ (Decides-int_eq p.from key.from).1
+            (taken_from end before e.reply p ds ((point.answered end side here).take_from (asked ∙ ap TakeFrom (sym same)) remembered) took ∙ ap (λ (k : ConnKey). k.from) same))
+
+        unknown : e.reply ≡ Took (Err (no.Unknown key.query key.motion)) → ⊥
+        unknown h = let bad : Took (Err (no.Unknown key.query key.motion)) ≡ Took (Ok (p, ds)) = sym h ∙ took in cc
+
+all_own : (place : Place) (h before rest : List Entry) → HubLaw place h → h ≡ before ++ rest → AllByRecursion (λ e. FromIts e.ask e.reply) rest
+all_own place h before [] law at = tt
+all_own place h before (e ∷ rest) law at = (its_own place before e (law before e rest at), all_own place h (before ++ e ∷ []) rest law (at ∙ sym (append_assoc before (e ∷ []) rest)))
+
+pub takes_agree : TakesAgree
+takes_agree session at settings h c law ours same here =
+    all_takes (place_at session at settings) c h ours (all_own (place_at session at settings) h [] h law refl) same here
