@@ -1,10 +1,9 @@
 -- What stands of a query whose workers are done stays while the workers of others ask.
-use Rattle.std.proofs.Common.{◌≡◌, ℕ, ℤ, pos, negsuc, List, [], ◌∷◌, ◌++◌, length, Bool, true, ◌||◌, refl, ap, sym, ◌∙◌, subst}
+use Rattle.std.proofs.Common.{◌≡◌, ℕ, pos, negsuc, List, ◌++◌, length, ◌||◌, ap, sym, ◌∙◌, subst}
 use Rattle.std.proofs.lemmas.List.Concat.{flat_map-append}
 use Rattle.std.proofs.lemmas.List.Folds.{list_any-append}
-use Rattle.std.specs.List.{flat_map, list_any, AllByRecursion}
+use Rattle.std.specs.List.{list_any, AllByRecursion}
 use Rattle.ic_base.specs.declared.keys.ConnKey.{ConnKey}
-use Rattle.ic_base.specs.declared.port.PortEntry.{PortEntry}
 use Rattle.ic_row.specs.declared.value.Value.{Value}
 use Rattle.ic_law.specs.declared.history.Entry.{Entry}
 use Rattle.ic_law.specs.History.{takes, parcels_of, is_last_parcel, whole_of, IsWhole}
@@ -15,7 +14,7 @@ use Rattle.gd_log.specs.Logs.{log_of}
 use Rattle.gd_log.proofs.Logs.{others_pass}
 use Rattle.gd_law.specs.Answers.{gather_key}
 use Rattle.gd_law.specs.Laws.{PlayedStays}
-use Rattle.gd_law.specs.Playing.{IsSent, IsFromOne, IsTaken, IsPlayed, GrowsPast, AllGrowPast}
+use Rattle.gd_law.specs.Playing.{IsSent, IsFromOne, IsTaken, GrowsPast}
 
 same_log : (query : ℕ) (h now : List Entry) → GrowsPast query h now → log_of query h ≡ log_of query now
 same_log query h now grows = sym (ap (log_of query) grows.grown ∙ others_pass grows.other query h grows.more grows.of grows.differs)
