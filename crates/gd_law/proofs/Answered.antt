@@ -1,8 +1,7 @@
 -- A query whose workers are done is answered.
-use Rattle.std.proofs.Common.{◌≡◌, ℕ, zero, suc, ◌+◌, ◌<◌, ◌≤◌, ℤ, pos, negsuc, List, [], ◌∷◌, ◌++◌, length, Bool, true, false, Some, refl, ap, sym, ◌∙◌, subst, arith, inl, inr, ◌⊎◌, slice_get, slice_index_or}
+use Rattle.std.proofs.Common.{◌≡◌, ℕ, zero, suc, ◌+◌, ◌<◌, ◌≤◌, ℤ, pos, negsuc, List, [], ◌∷◌, ◌++◌, length, Bool, true, false, Some, refl, ap, sym, ◌∙◌, subst, arith, inl, inr, slice_get, slice_index_or}
 use Rattle.std.proofs.Math.Nat.{eq-or-lt_of_le}
 use Rattle.std.proofs.lemmas.Option.{slice_get_within, slice_get-get_or}
-use Rattle.std.proofs.lemmas.Map.Keys.{IsDistinct-cons}
 use Rattle.std.proofs.lemmas.Bool.Decides.{Decides-int_eq}
 use Rattle.std.specs.List.{AllByRecursion, IsDistinct, Contains, flat_map}
 use Rattle.std.specs.List.Sorted.{IsPermutation}
@@ -13,11 +12,11 @@ use Rattle.ic_base.specs.declared.settings.Settings.{Settings}
 use Rattle.ic_row.specs.declared.value.Value.{Value}
 use Rattle.ic_chunk.specs.Assembly.{Assembles, together}
 use Rattle.ic_law.specs.declared.history.Entry.{Entry}
-use Rattle.ic_law.specs.History.{chunks_put_of, payloads_of, IsFinished}
+use Rattle.ic_law.specs.History.{IsFinished}
 use Rattle.ic_law.specs.Streams.{history_of, AreSent, AreTaken}
 use Rattle.ic_law.proofs.Lists.{Contains-none, Contains-head, Contains-tail, head_or_tail}
 use Rattle.gd_work.specs.Sending as sending
-use Rattle.gd_work.specs.Taking.{parcels_of, payloads_from}
+use Rattle.gd_work.specs.Taking.{parcels_of}
 use Rattle.gd_work.specs.Laws.{Gave}
 use Rattle.gd_work.proofs.Whole.{puts_all}
 use Rattle.gd_work.proofs.Interleaving.{lets_out_all}
@@ -153,12 +152,12 @@ played_is_answered session segments query settings parts nodes rows is ours leas
     let each = served session segments query settings parts nodes rows is ours least greatest played in
     let gave : (sender : ℤ) → Contains (from_on 0 (length parts)) sender → Gave sender parcels (part_of parts sender) =
     λ sender known.
-        let w = from_there 0 (length parts) sender known in
-        let n : ℕ = w.0 in
-        let taken = (each n (slice_index_or parts n []) (slice_get-get_or parts n [] (omega (arith, w.2)))).taken in
-        let agree = takes_agree session (negsuc 0) settings there (gather_key session query n) (is.hubs (negsuc 0)) (ours (negsuc 0)) refl refl in
-        subst (λ x. Gave x parcels (part_of parts x)) (sym w.3)
-        (record { rest = taken.rest; ended = taken.ended; assemble = subst (λ l. Assembles l (slice_index_or parts n []) taken.rest taken.ended) agree taken.assemble }) in
+    let w = from_there 0 (length parts) sender known in
+    let n : ℕ = w.0 in
+    let taken = (each n (slice_index_or parts n []) (slice_get-get_or parts n [] (omega (arith, w.2)))).taken in
+    let agree = takes_agree session (negsuc 0) settings there (gather_key session query n) (is.hubs (negsuc 0)) (ours (negsuc 0)) refl refl in
+    subst (λ x. Gave x parcels (part_of parts x)) (sym w.3)
+    (record { rest = taken.rest; ended = taken.ended; assemble = subst (λ l. Assembles l (slice_index_or parts n []) taken.rest taken.ended) agree taken.assemble }) in
     let front : (i : ℕ) → 0 + i ≡ i = λ i. omega arith in
     record {
       served = each;

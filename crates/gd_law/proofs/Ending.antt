@@ -1,5 +1,5 @@
 -- An end of stream that was taken had been put.
-use Rattle.std.proofs.Common.{◌≡◌, ℕ, ◌+◌, ◌-◌, ℤ, List, [], ◌∷◌, ◌++◌, length, map, Bool, true, false, ◌||◌, Option, Some, None, refl, ap, sym, ◌∙◌, subst, arith, inl, inr, ◌⊎◌, slice_get}
+use Rattle.std.proofs.Common.{◌≡◌, ℕ, ◌+◌, ◌-◌, ℤ, List, [], ◌∷◌, ◌++◌, length, map, Bool, true, false, ◌||◌, Option, Some, None, refl, ap, sym, ◌∙◌, subst, arith, inl, inr, slice_get}
 use Rattle.std.specs.List.{flat_map, Contains, list_any}
 use Rattle.std.proofs.lemmas.List.Elements.{Contains-append_left, Contains-append_cases, Contains-get_or}
 use Rattle.std.proofs.lemmas.Option.{slice_get_within, get_or_from_slice_get}
@@ -11,7 +11,7 @@ use Rattle.ic_header.proofs.Joining.{reads_spelled}
 use Rattle.ic_law.specs.declared.history.Entry.{Entry}
 use Rattle.ic_law.specs.Packets.{Packet, RowPacket, packet_read, packet_of, key_of, goes_forth}
 use Rattle.ic_law.specs.History.{emits, emitted_of, arrives, arrived_of, rows_in, rows_emitted_of, rows_arrived_of, chunks_put_of, IsFinished, takes, parcels_of, is_last_parcel, IsWhole}
-use Rattle.ic_law.specs.Filling.{Sealed, plain, final}
+use Rattle.ic_law.specs.Filling.{Sealed, plain}
 use Rattle.ic_law.specs.Points.{Place, place_at, IsDirected, IsFormed, final_of, Fills, Sends}
 use Rattle.ic_law.specs.Hub.{HubPoint, HubLaw}
 use Rattle.ic_law.specs.Streams.{history_of, NetworkLaw}

@@ -1,9 +1,9 @@
 -- What a history says of a connection is what the log of its worker says: entry by entry.
-use Rattle.std.proofs.Common.{◌≡◌, ◌≢◌, ℕ, zero, suc, ◌<◌, ℤ, List, [], ◌∷◌, ◌++◌, map, Bool, true, false, ◌&&◌, ◌||◌, ◌==◌, cond, Ok, Err, refl, ap, sym, ◌∙◌, subst, inl, inr, ◌⊎◌, append_assoc, append-nil, arith}
+use Rattle.std.proofs.Common.{◌≡◌, ℕ, zero, suc, ℤ, List, [], ◌∷◌, ◌++◌, map, Bool, true, false, ◌&&◌, ◌||◌, ◌==◌, cond, Ok, Err, refl, ap, sym, ◌∙◌, subst, inl, inr, ◌⊎◌, append_assoc, arith}
 use Rattle.std.proofs.lemmas.List.{map-append}
 use Rattle.std.proofs.lemmas.List.Concat.{flat_map-append}
 use Rattle.std.proofs.lemmas.Bool.Decides.{Decides-int_eq, Decides-eqb}
-use Rattle.std.specs.List.{Any, AllByRecursion, flat_map, list_any}
+use Rattle.std.specs.List.{Any, AllByRecursion}
 use Rattle.std.specs.Ordering.{int_eq}
 use Rattle.ic_base.specs.declared.keys.ConnKey.{ConnKey}
 use Rattle.ic_base.specs.declared.keys.ConnEnd.{ConnEnd}
@@ -15,26 +15,22 @@ use Rattle.ic_base.specs.declared.port.PortAsk.TheVariants as ask
 use Rattle.ic_base.specs.declared.port.PortReply.{PortReply}
 use Rattle.ic_base.specs.declared.port.PortReply.TheVariants as reply
 use Rattle.ic_base.specs.declared.port.PortEntry.{PortEntry}
-use Rattle.ic_base.specs.declared.settings.Settings.{Settings}
 use Rattle.ic_base.specs.Keys.{key_eq}
 use Rattle.ic_base.proofs.SameKeys.{key_eq-tells}
 use Rattle.ic_law.specs.declared.history.HubAsk.{HubAsk}
 use Rattle.ic_law.specs.declared.history.HubAsk.TheVariants.{Begin, Put, Finish, Take, TakeFrom, Halt, Arrive, Tick, Clear, Leave}
 use Rattle.ic_law.specs.declared.history.HubReply.{HubReply}
 use Rattle.ic_law.specs.declared.history.HubReply.TheVariants.{Begun, Gave, Took, Came, Ticked, Cleared, Left, Memory}
-use Rattle.ic_law.specs.declared.history.HubNo.{HubNo}
 use Rattle.ic_law.specs.declared.history.HubNo.TheVariants as no
 use Rattle.ic_law.specs.declared.history.Entry.{Entry}
-use Rattle.ic_law.specs.History.{was_given, chunk_put, puts, chunks_put_of, is_finish, finishes, finished_of, parcels_in, parcels_from, parcel_for, takes, parcels_of, payload_in, payloads_of, IsFinished}
-use Rattle.ic_law.specs.Points.{Place, place_at, Every, IsHere}
+use Rattle.ic_law.specs.History.{was_given, chunk_put, chunks_put_of, is_finish, finishes, finished_of, parcels_in, parcels_from, parcel_for, takes, parcels_of, payload_in, payloads_of, IsFinished}
+use Rattle.ic_law.specs.Points.{Place, place_at, IsHere}
 use Rattle.ic_law.specs.Receiving.{AnswersTake, Over, None as NothingNext, Taken}
 use Rattle.ic_law.specs.Hub.{HubPoint, HubLaw}
 use Rattle.gd_work.specs.Sending as sending
 use Rattle.gd_work.specs.Taking as taking
-use Rattle.gd_work.proofs.Sent.{any_more}
-use Rattle.gd_log.specs.Logs.{put_logs, take_logs, halt_logs, logs_by, logs, log_of, IsOurs, SendsHere, EndsHere}
-use Rattle.gd_law.specs.Laws.{SaysPut, PutsAgree, TakesAgree}
-use Rattle.gd_law.specs.Playing.{AreOurs}
+use Rattle.gd_log.specs.Logs.{put_logs, take_logs, halt_logs, logs_by, logs, log_of, IsOurs}
+use Rattle.gd_law.specs.Laws.{PutsAgree, TakesAgree}
 
 -- ---- keys with one side in common
 
@@ -288,15 +284,15 @@ entry_from_log place c (Finish key) replied ours session at any =
 entry_from_log place c (Begin q ends) replied ours session at any = absurd (any_none (sending.Finishes c.motion c.to) any)
 entry_from_log place c (Put key chunk) replied ours session at any =
     let bad : ask.Put key.motion key.to chunk ≡ ask.Finish c.motion c.to
-        = any_asks c.motion c.to (ask.Put key.motion key.to chunk) _ (chosen_asks _ (key.query == c.query) _ (put_asks (ask.Put key.motion key.to chunk) key replied)) any in cc
+    = any_asks c.motion c.to (ask.Put key.motion key.to chunk) _ (chosen_asks _ (key.query == c.query) _ (put_asks (ask.Put key.motion key.to chunk) key replied)) any in cc
 entry_from_log place c (Take q motion) replied ours session at any =
     let bad : ask.Take motion ≡ ask.Finish c.motion c.to = any_asks c.motion c.to (ask.Take motion) _ (chosen_asks _ (q == c.query) _ (take_asks (ask.Take motion) replied)) any in cc
 entry_from_log place c (TakeFrom key) replied ours session at any =
     let bad : ask.TakeFrom key.motion key.from ≡ ask.Finish c.motion c.to
-        = any_asks c.motion c.to (ask.TakeFrom key.motion key.from) _ (chosen_asks _ (key.query == c.query) _ (take_asks (ask.TakeFrom key.motion key.from) replied)) any in cc
+    = any_asks c.motion c.to (ask.TakeFrom key.motion key.from) _ (chosen_asks _ (key.query == c.query) _ (take_asks (ask.TakeFrom key.motion key.from) replied)) any in cc
 entry_from_log place c (Halt key) replied ours session at any =
     let bad : ask.Halt key.motion key.from ≡ ask.Finish c.motion c.to
-        = any_asks c.motion c.to (ask.Halt key.motion key.from) _ (chosen_asks _ (key.query == c.query) _ (halt_asks (ask.Halt key.motion key.from) replied)) any in cc
+    = any_asks c.motion c.to (ask.Halt key.motion key.from) _ (chosen_asks _ (key.query == c.query) _ (halt_asks (ask.Halt key.motion key.from) replied)) any in cc
 entry_from_log place c (Arrive d) replied ours session at any = absurd (any_none (sending.Finishes c.motion c.to) any)
 entry_from_log place c Tick replied ours session at any = absurd (any_none (sending.Finishes c.motion c.to) any)
 entry_from_log place c (Clear q) replied ours session at any = absurd (any_none (sending.Finishes c.motion c.to) any)

@@ -1,6 +1,6 @@
 -- A query whose workers are done stays as it is while the workers of others ask.
-use Rattle.std.proofs.Common.{◌≡◌, ℕ, ◌<◌, pos, negsuc, List, ◌++◌, length, true, ◌||◌, Some, ap, sym, ◌∙◌, subst, slice_get}
-use Rattle.std.specs.List.{AllByRecursion, flat_map, list_any}
+use Rattle.std.proofs.Common.{◌≡◌, ℕ, pos, negsuc, List, length, ◌||◌, ap, sym, ◌∙◌, subst}
+use Rattle.std.specs.List.{AllByRecursion, list_any}
 use Rattle.ic_base.specs.declared.keys.ConnKey.{ConnKey}
 use Rattle.ic_row.specs.declared.value.Value.{Value}
 use Rattle.ic_law.specs.declared.history.Entry.{Entry}
