@@ -1,2 +1,4 @@
 mod Readings
+mod Ending
+mod Answered
 mod Staying

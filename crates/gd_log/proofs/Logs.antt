@@ -19,7 +19,6 @@ log_grows query h more = flat_map-append (logs query) h more
 other_one : {A : Type 0} (a b : ℕ) (x : List A) → (a ≡ b → ⊥) → cond (a == b) x [] ≡ []
 other_one a b x differ = ap (λ t. cond t x []) (ne_eqb a b differ)
 
-
 -- an ask of another query's worker adds nothing
 silent_of : (other query : ℕ) (asked : HubAsk) (replied : HubReply) → IsOf other asked → other ≢ query → logs_by query asked replied ≡ []
 silent_of other query (Begin q ends) replied is differ = refl
