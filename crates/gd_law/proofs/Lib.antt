@@ -1,4 +1,4 @@
 mod Readings
 mod Ending
-mod Answered
-mod Staying
+pub mod Answered
+pub mod Staying
