@@ -1,0 +1,4 @@
+pub mod Noding
+pub mod Calls
+pub mod Telling
+pub mod Putting
