@@ -1,18 +1,12 @@
-pub mod Steps
-pub mod Headers
-pub mod Lists
-pub mod Keys
-pub mod Noting
+pub mod Keeping
+pub mod Logged
+pub mod Turning
 pub mod Sending
-pub mod Taken
-pub mod Sound
-pub mod Events
-pub mod Arrivals
-pub mod Whole
-pub mod Gaining
-pub mod Standing
-pub mod Taking
-pub mod Cutting
-pub mod End
-pub mod Interleaving
-pub mod Served
+pub mod Growing
+pub mod Starting
+pub mod Ending
+mod Steps
+mod Running
+pub mod KeyLemmas
+pub mod Counting
+pub mod Feeds

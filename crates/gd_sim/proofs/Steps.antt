@@ -1,37 +1,48 @@
--- One step of a loop of the rounds.
-use Rattle.std.proofs.Common.{◌≡◌, ℕ, suc, ◌+◌, ◌-◌, ◌<◌, length, Bool, true, false, cond, Option, Some, None, refl, ap, sym, ◌∙◌, arith, add-one, slice_get, length-set}
-use Rattle.std.specs.List.{list_all}
-use Rattle.gd_sim.specs.declared.conn.Conn.{Conn}
-use Rattle.gd_sim.specs.Rounds.{State, send, send_from, sent, sends_of, wait, wait_from, wait_with, waits_of, ticked, resent, round, rounds_of, is_done, is_ready, is_patient}
+-- Steps behind each other.
+use Rattle.std.proofs.Common.{◌≡◌, ℕ, ◌<◌, ℤ, List, length, true}
+use Rattle.ic_row.specs.declared.value.Value.{Value}
+use Rattle.gd_node.specs.Noding.{IsLawful}
+use Rattle.gd_sim.specs.declared.station.Station.{Station}
+use Rattle.gd_sim.specs.declared.sim.Sim.{Sim}
+use Rattle.gd_sim.specs.Playing.{Gather, AllPlay, AllGrow, AreRows}
+use Rattle.gd_sim.specs.Stations.{Goes, AllGoes, PlayGoes, CanPlay}
+use Rattle.gd_sim.proofs.Ending.{grow_none, grow_more}
 
--- what holds of both holds of the choice
-pub either : {X : Type 0} (P : X → Type 0) (b : Bool) (x y : X) → P x → P y → P (cond b x y)
-either P true x y p q = p
-either P false x y p q = q
+-- ---- nothing done
 
-pub sends_of-step : (st : State) (i n : ℕ) → i < n → sends_of st i (n - i) ≡ sends_of (send st i) (i + 1) (n - (i + 1))
-sends_of-step st i n lt = let e : n - i ≡ suc (n - (i + 1)) = omega arith in ap (sends_of st i) e ∙ ap (λ k. sends_of (send st i) k (n - (i + 1))) (sym (add-one i))
+pub goes_same : (g : Gather) (s : Sim) → AllPlay g s → Goes g s s
+goes_same g s play = record { play = play; grow = grow_none g.query s }
 
-pub waits_of-step : (st : State) (i n : ℕ) → i < n → waits_of st i (n - i) ≡ waits_of (wait st i) (i + 1) (n - (i + 1))
-waits_of-step st i n lt = let e : n - i ≡ suc (n - (i + 1)) = omega arith in ap (waits_of st i) e ∙ ap (λ k. waits_of (wait st i) k (n - (i + 1))) (sym (add-one i))
+pub all_same : (s : Sim) → AllGoes s s
+all_same s = λ g play. goes_same g s play
 
-pub rounds_of-step : (st : State) (i n : ℕ) → i < n → list_all is_done st.conns ≡ false → rounds_of (n - i) st ≡ rounds_of (n - (i + 1)) (round st)
-rounds_of-step st i n lt not_over =
-    let e : n - i ≡ suc (n - (i + 1)) = omega arith in
-    ap (λ k. rounds_of k st) e ∙ ap (λ b. cond b st (rounds_of (n - (i + 1)) (round st))) not_over
+pub play_same : (rows_at : ℤ → List (List Value)) (s : Sim) → PlayGoes rows_at s s
+play_same rows_at s = λ g play rows. goes_same g s play
 
-length-send_from : (st : State) (i : ℕ) (c : Option Conn) → length (send_from st i c).conns ≡ length st.conns
-length-send_from st i None = refl
-length-send_from st i (Some c) = either (λ (s : State). length s.conns ≡ length st.conns) (is_ready c) (sent st i c) st (length-set st.conns i _) refl
+-- ---- one behind another
 
-pub length-send : (st : State) (i : ℕ) → length (send st i).conns ≡ length st.conns
-length-send st i = length-send_from st i (slice_get st.conns i)
+pub goes_on : (g : Gather) (a b c : Sim) → Goes g a b → Goes g b c → Goes g a c
+goes_on g a b c first second = record { play = second.play; grow = grow_more g.query a b c first.grow second.grow }
 
-length-wait_from : (st : State) (i : ℕ) (c : Option Conn) → length (wait_from st i c).conns ≡ length st.conns
-length-wait_from st i None = refl
-length-wait_from st i (Some c) =
-    either (λ (s : State). length s.conns ≡ length st.conns) c.waiting (wait_with st i c) st
-    (either (λ (s : State). length s.conns ≡ length st.conns) (is_patient c) (ticked st i c) (resent st i c) (length-set st.conns i _) (length-set st.conns i _)) refl
+pub all_on : (a b c : Sim) → AllGoes a b → AllGoes b c → AllGoes a c
+all_on a b c first second = λ g play. let one = first g play in goes_on g a b c one (second g one.play)
 
-pub length-wait : (st : State) (i : ℕ) → length (wait st i).conns ≡ length st.conns
-length-wait st i = length-wait_from st i (slice_get st.conns i)
+pub play_on : (rows_at : ℤ → List (List Value)) (a b c : Sim) → PlayGoes rows_at a b → PlayGoes rows_at b c → PlayGoes rows_at a c
+play_on rows_at a b c first second = λ g play rows. let one = first g play rows in goes_on g a b c one (second g one.play rows)
+
+-- a step that needs no rows
+pub any_rows : (rows_at : ℤ → List (List Value)) (a b : Sim) → AllGoes a b → PlayGoes rows_at a b
+any_rows rows_at a b goes = λ g play rows. goes g play
+
+-- ---- what may go on
+
+pub can_go_on : (rows_at : ℤ → List (List Value)) (a b : Sim) → CanPlay rows_at a → PlayGoes rows_at a b → CanPlay rows_at b
+can_go_on rows_at a b can goes = record { gather = can.gather; play = (goes can.gather can.play can.rows_are).play; rows_are = can.rows_are }
+
+-- ---- one station of many
+
+abbrev pub HasLeft : Station → Type 0
+HasLeft s = s.left ≡ true
+
+abbrev pub KeepsLaws : Station → Type 0
+KeepsLaws s = IsLawful s.node

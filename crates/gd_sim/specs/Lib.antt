@@ -1,8 +1,8 @@
-pub mod Keys
-pub mod Packets
-pub mod History
-pub mod Laws
+pub mod Feeding
 pub mod Run
-pub mod Rounds
-pub mod Taking
-pub mod Telling
+pub mod Playing
+pub mod Stations
+pub mod Beginning
+pub mod Runs
+pub mod Plans
+pub mod Tallying

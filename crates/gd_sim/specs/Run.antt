@@ -1,52 +1,75 @@
--- What a finished run is.
-use Rattle.std.specs.Prelude.{◌≡◌, ℕ, ◌+◌, ◌-◌, ◌<◌, pos, List, [], length, Some, IsPermutation, slice_get, slice_index_or}
-use Rattle.std.specs.List.{AllByRecursion}
+-- What a run is: a session of its nodes, an answer for each query that is over, and the fault that ended it, if one did.
+use Rattle.std.specs.Prelude.{◌≡◌, ◌⊎◌, ℕ, ◌+◌, ◌<◌, List, [], ◌∷◌, ◌++◌, length, Option, Some, None, Err, Contains, slice_get, slice_index_or}
 use Rattle.ic_base.specs.declared.keys.ConnKey.{ConnKey}
+use Rattle.ic_base.specs.declared.settings.Settings.{Settings}
 use Rattle.ic_row.specs.declared.value.Value.{Value}
-use Rattle.ic_row.specs.Spelling.{IsRow}
-use Rattle.ic_chunk.specs.Assembly.{together}
-use Rattle.gd_sim.specs.declared.history.Entry.{Entry}
-use Rattle.gd_sim.specs.declared.tally.Tally.{Tally}
+use Rattle.ic_law.specs.declared.history.HubAsk.{HubAsk}
+use Rattle.ic_law.specs.declared.history.HubAsk.TheVariants.{Put, Finish, Tick}
+use Rattle.ic_law.specs.declared.history.HubReply.TheVariants.{Gave, Ticked}
+use Rattle.ic_law.specs.declared.history.HubNo.TheVariants as hub
+use Rattle.ic_law.specs.declared.history.TickNo.TheVariants as tick
+use Rattle.ic_law.specs.declared.history.Entry.{Entry}
+use Rattle.ic_law.specs.History.{left_of}
+use Rattle.pl_rows.specs.declared.loaded.Spread.{Spread}
+use Rattle.gd_law.specs.Sessions.{IsSession}
+use Rattle.gd_law.specs.Answers.{IsAnswered}
+use Rattle.gd_sim.specs.declared.feed.Feed.{Feed}
 use Rattle.gd_sim.specs.declared.run.FirstRun.{FirstRun}
-use Rattle.gd_sim.specs.Keys.{gather_key, node_of}
-use Rattle.gd_sim.specs.Packets.{Fits}
-use Rattle.gd_sim.specs.History.{history_at, whole_of, IsFinished, IsWhole, numbers_of}
-use Rattle.gd_sim.specs.Laws.{NetworkLaw, IsSent, IsTaken, StreamLaw, SendingLaw, TakingLaw, LetsOut, greatest}
-use Rattle.gd_sim.specs.Rounds.{cut}
+use Rattle.gd_sim.specs.declared.run.FirstNo.{FirstNo}
+use Rattle.gd_sim.specs.declared.run.FirstNo.TheVariants.{Unfinished, Spent, TooLong}
+use Rattle.gd_sim.specs.Feeding.{parts_of}
 
--- the chunks of each part before this place fit into packets, and its rows can be read again
-abbrev pub AllFit : ℕ → List (List (List Value)) → ℕ → Type 0
-AllFit session parts place = (s : ℕ) (part : List (List Value)) → s < place → slice_get parts s ≡ Some part → Fits session s (cut part) × AllByRecursion IsRow part
+-- ---- faults
 
--- what the histories tell of a connection
-pub record IsTallyOf (histories : List (List Entry)) (conn : ConnKey) (t : Tally) : Type 0 where
-  pub key : t.key ≡ conn
-  pub sent : (rows : List (List Value)) → IsSent conn (history_at histories (node_of conn.from)) rows → t.sent ≡ length rows
-  pub taken : (rows : List (List Value)) → IsTaken conn (history_at histories (node_of conn.to)) rows → t.taken ≡ length rows
-  pub packets : t.packets ≡ greatest (numbers_of conn (history_at histories (node_of conn.from)))
-  pub resent : t.resent ≡ length (numbers_of conn (history_at histories (node_of conn.from))) - greatest (numbers_of conn (history_at histories (node_of conn.from)))
-  pub whole : t.whole ≡ whole_of conn (history_at histories (node_of conn.to))
+-- the entry is the last one of some node's history
+pub record IsLast (nodes : List (List Entry)) (e : Entry) : Type 0 where
+  pub at : ℕ
+  pub within : at < length nodes
+  pub before : List Entry
+  pub history : slice_index_or nodes at [] ≡ before ++ e ∷ []
 
--- one tally per connection, by sending segment
-pub record AreTallies (session segments : ℕ) (histories : List (List Entry)) (tallies : List Tally) : Type 0 where
-  pub count : length tallies ≡ segments
-  pub each : (s : ℕ) (t : Tally) → slice_get tallies s ≡ Some t → IsTallyOf histories (gather_key session (pos s)) t
+-- the ask puts a chunk on this connection, or the end of stream
+abbrev pub PutsOn : ConnKey → HubAsk → Type 0
+PutsOn key ask = ((chunk : List ℕ) × (ask ≡ Put key chunk)) ⊎ (ask ≡ Finish key)
 
--- a connection, at its end: the sender sent its part and the end, and all of it was taken
-pub record IsServed (session segment : ℕ) (part : List (List Value)) (histories : List (List Entry)) : Type 0 where
-  pub sent : IsSent (gather_key session (pos segment)) (history_at histories (segment + 1)) part
-  pub finished : IsFinished (gather_key session (pos segment)) (history_at histories (segment + 1))
-  pub sending : SendingLaw (gather_key session (pos segment)) (history_at histories (segment + 1))
-  pub taken : IsTaken (gather_key session (pos segment)) (history_at histories 0) part
-  pub stream : StreamLaw (gather_key session (pos segment)) (history_at histories (segment + 1)) (history_at histories 0)
-  pub whole : IsWhole (gather_key session (pos segment)) (history_at histories 0)
+-- a put on this connection was the last ask of some node, and was refused since the numbers of packets are used up
+pub record IsUsedUp (nodes : List (List Entry)) (key : ConnKey) : Type 0 where
+  pub entry : Entry
+  pub last : IsLast nodes entry
+  pub ask : PutsOn key entry.ask
+  pub which : ConnKey
+  pub reply : entry.reply ≡ Gave (Err (hub.TooLong which))
 
--- the rows and tallies are those of histories that keep the laws, and the rows are those of the parts, in some order
-pub record IsRun (session : ℕ) (parts : List (List (List Value))) (run : FirstRun) : Type 0 where
-  pub nodes : length run.histories ≡ length parts + 1
-  pub network : NetworkLaw run.histories
-  pub taking : TakingLaw session (history_at run.histories 0)
-  pub served : (segment : ℕ) → segment < length parts → IsServed session segment (slice_index_or parts segment []) run.histories
-  pub lets_out : LetsOut session (length parts) (history_at run.histories 0) run.rows
-  pub answer : IsPermutation (together parts) run.rows
-  pub tallies : AreTallies session (length parts) run.histories run.tallies
+-- some node has not left the query
+pub record IsUnleft (nodes : List (List Entry)) (query : ℕ) : Type 0 where
+  pub at : ℕ
+  pub within : at < length nodes
+  pub stays : Contains (left_of (slice_index_or nodes at [])) query → ⊥
+
+-- Why a query, which runs for at most so many rounds, isn't over. After all rounds some node has not left it; or the last
+-- tick of some node was refused, since a packet was sent again as often as it may be; or the numbers of packets of a
+-- connection are used up.
+abbrev pub HasCause : (rounds query : ℕ) → List (List Entry) → FirstNo → Type 0
+HasCause rounds query nodes (Unfinished n) = (n ≡ rounds) × IsUnleft nodes query
+HasCause rounds query nodes (Spent key seq tries) = IsLast nodes (record { ask = Tick; reply = Ticked (Err (tick.Spent key seq tries)) })
+HasCause rounds query nodes (TooLong key) = IsUsedUp nodes key
+
+-- the query behind those that are over has the fault; without one all are over
+abbrev pub Ends : (rounds : ℕ) → List Feed → FirstRun → Option FirstNo → Type 0
+Ends rounds feeds run None = length run.rows ≡ length feeds
+Ends rounds feeds run (Some refusal) = (length run.rows < length feeds) × HasCause rounds (length run.rows + 1) run.histories refusal
+
+-- ---- runs
+
+-- these rows are the answer of the query of this place, from 0, whose number is one more
+pub record AnswersFeed (session : ℕ) (settings : Settings) (loaded : List Spread) (feeds : List Feed) (nodes : List (List Entry)) (place : ℕ) (rows : List (List Value)) : Type 0 where
+  pub feed : Feed
+  pub here : slice_get feeds place ≡ Some feed
+  pub answered : IsAnswered session (place + 1) settings.packet (parts_of loaded feed) nodes rows
+
+-- A run of queries in a session of so many segments: the histories are those of a session, each query that is over was
+-- answered with its rows, and the run ended for its cause.
+pub record IsRun (session segments rounds : ℕ) (settings : Settings) (loaded : List Spread) (feeds : List Feed) (run : FirstRun) : Type 0 where
+  pub session_is : IsSession session segments settings run.histories
+  pub answers : (place : ℕ) (rows : List (List Value)) → slice_get run.rows place ≡ Some rows → AnswersFeed session settings loaded feeds run.histories place rows
+  pub ends : Ends rounds feeds run run.fault

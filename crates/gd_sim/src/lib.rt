@@ -1,28 +1,25 @@
-//! One gather over one scan, run in rounds over a network in memory. No socket, no clock, no thread.
+//! Runs the queries of a session over a network in memory: a node for each segment and the dispatcher, their workers, and
+//! the network between them, in rounds. No thread, no socket and no clock.
 //!
-//! `first_run` is the one call: it is given the rows of each segment, and gives the rows that the dispatcher
-//! took, the tallies and the histories of all nodes. Every law about a run is read from these histories.
+//! A program calls [`first_run`] once, with sound plans and the loaded tables, and reads the tallies of a query that is
+//! over from the histories by [`tallies_of`].
 //!
-//! Rows are `ic_row` rows. Each is spelled and cut into chunks by `ic_chunk`, each chunk goes in a packet of its own
-//! behind a header of `ic_header`, and a packet is a datagram of bytes. The dispatcher reads the bytes, takes each
-//! sender's packets in order, and puts its rows together again.
-//!
-//! Below: `ic_base`, `ic_row`, `ic_header`, `ic_chunk`. Above: `icq_top`.
+//! Read first: `specs/Run.antt`, what a run is; then `specs/Playing.antt`, what stands while a query plays. Below: `gd_node`
+//! for hubs with their histories, `gd_work` for workers, `gd_net` for the network, `gd_law` for what histories tell,
+//! `pl_plan` and `pl_rows` for plans and rows. Above: the program.
 #![tactic(auto)]
 
-mod conn;
-mod history;
-mod play;
-mod rows;
+mod begin;
+mod fault;
+mod feed;
+mod plans;
+mod rounds;
 mod run;
 mod sim;
-mod taker;
+mod station;
 mod tally;
 
-pub use history::{Entry, Histories, History, HubAsk, HubReply};
-pub use rows::{Chunks, Parts};
-pub use run::{FirstNo, FirstRun, first_run};
-pub use tally::{Tallies, Tally};
-
-#[cfg(test)]
-mod tests;
+pub use feed::Feed;
+pub use plans::{SoundPlans, feed_of, feeds_of, first_run, gathered};
+pub use run::{FirstNo, FirstRun, RowLists, run_feeds};
+pub use tally::{Tallies, Tally, tallies_of, tally_of};

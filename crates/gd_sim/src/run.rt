@@ -1,223 +1,269 @@
 // A whole run.
-ghost use Rattle.std.specs.Prelude.{◌≡◌, ◌≢◌, ◌<◌, ◌≤◌, ◌++◌, ℕ, pos, length, map, OnOk, IfOk, IfErr, replicate, [], true, false};
-ghost use Rattle.std.specs.List.{All, AllByRecursion};
-ghost use Rattle.ic_row.specs.Spelling.{HasLengths, IsRow};
-ghost use Rattle.ic_chunk.specs.Chunks.{spelled};
-ghost use Rattle.ic_chunk.specs.Cutting.{chunks_of};
-ghost use Rattle.gd_sim.specs.Keys.{gather_key};
-ghost use Rattle.gd_sim.specs.Packets.{Fits};
-ghost use Rattle.gd_sim.specs.Rounds.{cut, new_conn, new_conns, start, is_over};
-ghost use Rattle.gd_sim.specs.Run.{IsRun, AllFit};
-ghost use Rattle.gd_sim.specs.Taking.{fresh_stream};
-ghost use Rattle.gd_sim.specs.Telling.{tellings};
+ghost use Rattle.std.specs.Prelude.{◌≡◌, ◌<◌, ◌≤◌, [], length, IfOk};
+ghost use Rattle.std.specs.List.{AllByRecursion};
+ghost use Rattle.ic_base.specs.Settings.{AreChecked};
+ghost use Rattle.pl_rows.specs.Placed.{rows_at};
+ghost use Rattle.gd_sim.specs.Feeding.{IsFeed};
+ghost use Rattle.gd_sim.specs.Run.{IsRun};
+ghost use Rattle.gd_sim.specs.Playing.{Gather, nodes_of};
+ghost use Rattle.gd_sim.specs.Stations.{AreLawful};
+ghost use Rattle.gd_sim.specs.Beginning.{IsBeginning};
+ghost use Rattle.gd_sim.specs.Runs.{query_fault, GivesRows, CanStart, Starts, Ends, Stands, GoesOn, EndAll};
 
-use crate::conn::Conn;
-use crate::history::Histories;
-use crate::play::Play;
-use crate::rows::{Chunks, Parts};
+use crate::begin::Beginning;
+use crate::fault::SimNo;
+use crate::feed::Feed;
 use crate::sim::Sim;
-use crate::taker::{Stream, Taker};
-use crate::tally::Tallies;
-use ic_base::{Bytes, ConnKey, Datagrams, Drops, SegId};
-use ic_chunk::Splitter;
-use ic_row::{Rows, spell};
+use crate::station::Worker;
+use ic_base::{ConnKey, Drops, Settings};
+use ic_law::Histories;
+use ic_row::Rows;
+use pl_rows::Loaded;
 use std::alloc::{AllocError, Global};
+use std::marker::Model;
 use std::mem;
 
-/// The size of a packet in bytes, its header included.
-const PACKET: u32 = 8192;
-
-/// A finished run.
-#[derive(Drop)]
-pub struct FirstRun {
-    /// The rows that the dispatcher took, in the order in which it took them.
-    pub rows: Rows,
-    /// One tally per connection, by sending segment.
-    pub tallies: Tallies,
-    /// What each node was asked and replied, the dispatcher's first.
-    pub histories: Histories,
-}
-
-/// Why there is none.
+/// Why a query isn't over. It ends the run.
 #[derive(Clone, Copy, Debug, PartialEq, Eq)]
 pub enum FirstNo {
-    /// After so many rounds an end wasn't taken and acknowledged.
+    /// After so many rounds a worker wasn't done, or a node hadn't left the query.
     Unfinished(u64),
-    /// Memory ran out, or a sender has 4294967295 chunks or more: packet numbers have 32 bits.
+    /// The network's: a packet of this number, or the status query behind it, was sent again so often without an answer.
+    Spent { key: ConnKey, seq: u32, tries: u32 },
+    /// The query's: the numbers of packets of this connection are used up.
+    TooLong(ConnKey),
+}
+
+/// The rows of each query that is over, in order, seen as a list.
+#[derive(Drop)]
+pub struct RowLists {
+    items: Vec<Rows>,
+}
+
+impl Model for RowLists {
+    ghost use Rattle.std.specs.Prelude.{List};
+    ghost use Rattle.ic_row.specs.Values.{Datum};
+
+    ghost Value = { List (List (List Datum)) };
+
+    ghost view = { λ r. r.items.items };
+}
+
+impl RowLists {
+    ghost use Rattle.std.specs.Prelude.{◌≡◌};
+
+    /// Takes no memory.
+    pub fn from_vec(items: Vec<Rows>) -> RowLists
+        ensures { result ≡ items.items }
+    {
+        RowLists { items }
+    }
+
+    pub fn as_slice(&self) -> &[Rows]
+        ensures { result.now ≡ self.now }
+    {
+        self.items.as_slice()
+    }
+}
+
+/// A run that ended.
+#[derive(Drop)]
+pub struct FirstRun {
+    /// The rows of each query that is over, in the order in which the dispatcher let them out.
+    pub rows: RowLists,
+    /// What each node was asked and replied, the dispatcher's first.
+    pub histories: Histories,
+    /// Why the query behind these isn't over, if one isn't.
+    pub fault: Option<FirstNo>,
+}
+
+/// Why one query isn't over.
+pub(crate) enum QueryNo {
+    Fault(FirstNo),
+    /// Nobody's: want of memory.
     Memory,
 }
 
-impl From<AllocError> for FirstNo {
-    ghost use Rattle.std.specs.Prelude.{◌≡◌};
-    ghost use Rattle.gd_sim.specs.declared.run.FirstNo.TheVariants.{Memory};
+impl From<SimNo> for QueryNo {
+    ghost from_gives = { λ no_ e. e ≡ query_fault no_ };
 
-    ghost from_gives = { λ _ e. e ≡ Memory };
-
-    fn from(_: AllocError) -> Self {
-        FirstNo::Memory
+    fn from(no: SimNo) -> QueryNo {
+        match no {
+            SimNo::Spent { key, seq, tries } => QueryNo::Fault(FirstNo::Spent { key, seq, tries }),
+            SimNo::TooLong(key) => QueryNo::Fault(FirstNo::TooLong(key)),
+            SimNo::Memory => QueryNo::Memory,
+        }
     }
 }
 
-/// The connection of the one gather from this segment, from 0.
-fn key_for(session: u32, segment: usize) -> ConnKey
-    requires { segment < 64 }
-    ensures { result ≡ gather_key session (pos segment) }
+/// What all queries of a run have in common.
+#[derive(Clone, Copy)]
+struct Common {
+    session: u32,
+    segments: u32,
+    settings: Settings,
+    rounds: u64,
+}
+
+/// Takes the rows of a worker, who rests from then on.
+fn take_rows(alloc: Global, worker: &mut Worker) -> Rows
+    ensures { GivesRows worker.old result }
 {
-    let Some(from) = SegId::new(segment as i32) else {
-        unreachable!();
-    };
-    ConnKey {
-        session,
-        query: 1,
-        motion: 1,
-        from,
-        to: SegId::DISPATCHER,
+    match mem::replace(worker, Worker::Rests) {
+        Worker::Takes(gatherer) => gatherer.into_rows(),
+        _ => Rows::new(alloc),
     }
 }
 
-/// Puts the chunks of a row's spelling behind others.
-fn push_chunks(alloc: Global, row: Bytes, chunks: &mut Chunks) -> Result<(), AllocError>
-    ensures { OnOk result (chunks.new ≡ chunks.old ++ map spelled (chunks_of 8192 row)) }
-{
-    let mut splitter = Splitter::new(row, PACKET);
-    let mut chunk = Vec::new(alloc);
-    while splitter.next(&mut chunk)? {
-        let bytes = mem::replace(&mut chunk, Vec::new(alloc));
-        chunks.push(Bytes::from_vec(alloc, bytes)?)?;
+impl Sim {
+    /// Runs one query, and gives the rows that the dispatcher let out.
+    fn run_query(
+        &mut self,
+        alloc: Global,
+        beginning: &Beginning,
+        loaded: &Loaded,
+        table: u32,
+        rounds: u64,
+    ) -> Result<Rows, QueryNo>
+        requires some { 0 < length self.old.stations.items }
+        requires beginning { IsBeginning beginning.now }
+        requires can { CanStart beginning.now (rows_at loaded.now table) self.old }
+        ensures { (g : Gather) → Starts g beginning.now (rows_at loaded.now table) self.old → Ends rounds g self.old self.new result }
+    {
+        if self.begin(alloc, beginning).is_err() {
+            return Err(QueryNo::Memory);
+        }
+        if !self.rounds(alloc, loaded, table, rounds)? {
+            return Err(QueryNo::Fault(FirstNo::Unfinished(rounds)));
+        }
+        Ok(take_rows(alloc, &mut self.stations[0].worker))
     }
-    Ok(())
-}
 
-/// The chunks of rows.
-fn chunks_for(alloc: Global, rows: &Rows) -> Result<Chunks, AllocError>
-    requires { All HasLengths rows.now }
-    ensures chunks { IfOk result (λ c. c ≡ cut rows.now) }
-    ensures rows { OnOk result (AllByRecursion IsRow rows.now) }
-{
-    let mut chunks = Chunks::new(alloc);
-    let rows = rows.as_slice();
-    for row in rows {
-        push_chunks(alloc, spell(alloc, row)?, &mut chunks)?;
-    }
-    Ok(chunks)
-}
-
-/// The connection of a segment that sends these rows.
-fn connection(alloc: Global, session: u32, segment: usize, part: &Rows) -> Result<Conn, AllocError>
-    requires few { segment < 64 }
-    requires lengths { All HasLengths part.now }
-    ensures conn { IfOk result (λ c. c ≡ new_conn (gather_key session (pos segment)) (length part.now) (cut part.now)) }
-    ensures fits { OnOk result (Fits session segment (cut part.now) × AllByRecursion IsRow part.now) }
-{
-    let chunks = chunks_for(alloc, part)?;
-    if chunks.as_slice().len() >= u32::MAX as usize {
-        return Err(AllocError);
-    }
-    let key = key_for(session, segment);
-    Ok(Conn::new(key, part.len() as u64, chunks))
-}
-
-/// One connection per part.
-fn connections(alloc: Global, session: u32, parts: &[Rows]) -> Result<Vec<Conn>, AllocError>
-    requires few { length parts.now ≤ 64 }
-    requires lengths { All (All HasLengths) parts.now }
-    ensures conns { IfOk result (λ v. v.items ≡ new_conns session 0 parts.now) }
-    ensures fits { OnOk result (AllFit session parts.now (length parts.now)) }
-{
-    let mut conns = Vec::new(alloc);
-    for (segment, part) in parts.iter().enumerate() {
-        conns.push(connection(alloc, session, segment, part)?)?;
-    }
-    Ok(conns)
-}
-
-/// Before the first round.
-fn begin(alloc: Global, session: u32, parts: &Parts, drops: &Drops) -> Result<Play, AllocError>
-    requires few { length parts.now ≤ 64 }
-    requires lengths { All (All HasLengths) parts.now }
-    ensures sim { IfOk result (λ p. p.sim ≡ start session drops.now parts.now) }
-    ensures taker { IfOk result (λ p. p.taker ≡ record { streams = replicate (length parts.now) fresh_stream; rows = [] }) }
-    ensures fits { OnOk result (AllFit session parts.now (length parts.now)) }
-{
-    let parts = parts.as_slice();
-    let conns = connections(alloc, session, parts)?;
-    let nodes = Histories::new(alloc, parts.len() + 1)?;
-    let drops = Drops::from_vec(Vec::from_slice(alloc, drops.as_slice())?);
-    let taker = Taker::new(alloc, parts.len())?;
-    let sim = Sim {
-        alloc,
-        conns,
-        drops,
-        sends: 0,
-        packets: Datagrams::new(alloc),
-        answers: Datagrams::new(alloc),
-        nodes,
-    };
-    Ok(Play { sim, taker })
-}
-
-/// One tally per connection.
-fn tallies(alloc: Global, conns: &[Conn], streams: &[Stream]) -> Result<Tallies, AllocError>
-    ensures { IfOk result (λ t. t ≡ tellings conns.now streams.now) }
-{
-    let mut tallies = Tallies::new(alloc);
-    for (segment, conn) in conns.iter().enumerate() {
-        let Some(stream) = streams.get(segment) else {
-            return Ok(tallies);
+    /// Runs the query of a feed behind those that are over with these rows, and puts its rows behind these. Tells why it
+    /// isn't over, where it isn't.
+    fn run_next(
+        &mut self,
+        alloc: Global,
+        common: &Common,
+        feeds: &[Feed],
+        loaded: &Loaded,
+        place: usize,
+        lists: &mut Vec<Rows>,
+    ) -> Result<Option<FirstNo>, AllocError>
+        requires settings { AreChecked common.now.settings }
+        requires few { length feeds.now ≤ 64 }
+        requires most { common.now.segments ≤ 64 }
+        requires feeds { AllByRecursion (IsFeed common.now.segments loaded.now) feeds.now }
+        requires here { place < length feeds.now }
+        requires next { place ≡ length lists.old.items }
+        requires stands { Stands common.now.session common.now.segments common.now.settings loaded.now feeds.now self.old lists.old.items }
+        ensures { IfOk result (GoesOn common.now.session common.now.segments common.now.rounds common.now.settings loaded.now feeds.now self.new lists.old.items lists.new.items) }
+    {
+        let feed = feeds[place];
+        let beginning = Beginning {
+            session: common.session,
+            query: place as u32 + 1,
+            packet: common.settings.packet,
+            senders: feed.senders,
         };
-        tallies.push(conn.tally(stream.rows))?;
+        match self.run_query(alloc, &beginning, loaded, feed.table, common.rounds) {
+            Ok(rows) => {
+                lists.push(rows)?;
+                Ok(None)
+            }
+            Err(QueryNo::Fault(fault)) => Ok(Some(fault)),
+            Err(QueryNo::Memory) => Err(AllocError),
+        }
     }
-    Ok(tallies)
+
+    /// Runs the queries of all feeds, and puts their rows in order. Tells why one isn't over, where one isn't.
+    fn run_all(
+        &mut self,
+        alloc: Global,
+        common: &Common,
+        feeds: &[Feed],
+        loaded: &Loaded,
+        lists: &mut Vec<Rows>,
+    ) -> Result<Option<FirstNo>, AllocError>
+        requires settings { AreChecked common.now.settings }
+        requires few { length feeds.now ≤ 64 }
+        requires most { common.now.segments ≤ 64 }
+        requires feeds { AllByRecursion (IsFeed common.now.segments loaded.now) feeds.now }
+        requires first { lists.old.items ≡ [] }
+        requires stands { Stands common.now.session common.now.segments common.now.settings loaded.now feeds.now self.old [] }
+        ensures { IfOk result (EndAll common.now.session common.now.segments common.now.rounds common.now.settings loaded.now feeds.now self.new lists.new.items) }
+    {
+        for place in 0..feeds.len() {
+            let fault = self.run_next(alloc, common, feeds, loaded, place, lists)?;
+            if fault.is_some() {
+                return Ok(fault);
+            }
+        }
+        Ok(None)
+    }
+
+    /// The laws of hubs hold at each node. Has nothing to run.
+    fn lawful(&self)
+        ensures { AreLawful self.now.stations.items }
+    {
+        for station in &self.stations {
+            station.node.lawful();
+        }
+    }
+
+    /// The histories of all nodes, the dispatcher's first.
+    fn into_histories(self, alloc: Global) -> Result<Histories, AllocError>
+        ensures { IfOk result (λ h. h ≡ nodes_of self.stations.items) }
+    {
+        let mut histories = Vec::with_capacity(alloc, self.stations.len())?;
+        for station in self.stations {
+            histories.push(station.node.into_history())?;
+        }
+        Ok(Histories::from_vec(histories))
+    }
 }
 
-/// What is left of the rounds at their end.
-fn end(play: Play) -> Result<FirstRun, AllocError>
-    ensures rows { IfOk result (λ r. r.rows ≡ play.taker.rows) }
-    ensures histories { IfOk result (λ r. r.histories ≡ play.sim.nodes) }
-    ensures tallies { IfOk result (λ r. r.tallies ≡ tellings play.sim.conns play.taker.streams) }
-{
-    let Play { sim, taker } = play;
-    let tallies = tallies(sim.alloc, sim.conns.as_slice(), taker.streams.as_slice())?;
-    Ok(FirstRun {
-        rows: taker.rows,
-        tallies,
-        histories: sim.nodes,
-    })
-}
-
-/// Runs a gather of the parts, one per segment from 0 on, for at most so many rounds over a network that loses the
-/// sends whose numbers stand in `drops`. Each row is spelled and cut into chunks for packets of 8192 bytes, and each
-/// chunk goes in a packet of its own, so that a row that doesn't fit one chunk takes several packets. Copies of a
-/// datagram share its bytes.
+/// Runs the queries of a session one behind the other, each for at most so many rounds, over a network that loses the
+/// sends with the numbers of `drops`. The first fault ends the run.
 ///
-/// A round has four steps. Each segment in order, if nothing of it is unacknowledged and something is left, sends its
-/// next packet: one chunk, or behind the last one the end of stream. The dispatcher receives what is kept for it,
-/// takes each packet that is its sender's next, and answers each with the number taken so far from that sender. Each
-/// segment receives its answers; one with the number of the unacknowledged packet frees it. Each segment with an
-/// unacknowledged packet counts one more round of waiting, and in the fourth sends the packet again.
-#[tactic(auto, unfolding(crate::specs::Rounds::is_over))]
-pub fn first_run(
+/// A round has four steps. Each worker takes turns until it waits or is done, 256 at most, those that send by segment
+/// and the dispatcher's last. Each node, the dispatcher's first, receives until nothing is kept for it, 1024 datagrams at
+/// most. The clock of each node for which nothing was under way at its last receive goes on. Each node whose worker is done
+/// leaves the query, where each of its connections is over. A query is over when every node has left it.
+///
+/// Keeps every entry of every node; the bytes of a datagram are kept once.
+pub fn run_feeds(
     alloc: Global,
     session: u32,
-    queries: u32,
-    parts: &Parts,
+    feeds: &[Feed],
+    loaded: &Loaded,
+    settings: Settings,
+    segments: u32,
     drops: &Drops,
     rounds: u64,
-) -> Result<FirstRun, FirstNo>
-    requires queries { queries ≡ 1 }
-    requires some { 0 < length parts.now }
-    requires few { length parts.now ≤ 64 }
-    // The rows that are carried are those that can be spelled: fewer than 2^16 values, texts shorter than 2^32 bytes.
-    requires lengths { All (All HasLengths) parts.now }
-    ensures run { IfOk result (IsRun session parts.now) }
-    ensures over { OnOk result (is_over rounds session drops.now parts.now ≡ true) }
-    ensures unfinished { IfErr result (λ e. e ≢ FirstNo.Memory
-        → (e ≡ FirstNo.Unfinished rounds) × (is_over rounds session drops.now parts.now ≡ false)) }
+) -> Result<FirstRun, AllocError>
+    requires checked { AreChecked settings }
+    requires least { 1 ≤ segments }
+    requires most { segments ≤ 64 }
+    requires few { length feeds.now ≤ 64 }
+    requires feeds { AllByRecursion (IsFeed segments loaded.now) feeds.now }
+    ensures { IfOk result (IsRun session segments rounds settings loaded.now feeds.now) }
 {
-    let mut play = begin(alloc, session, parts, drops)?;
-    if play.run(rounds)? {
-        Ok(end(play)?)
-    } else {
-        Err(FirstNo::Unfinished(rounds))
-    }
+    let drops = Drops::from_vec(Vec::from_slice(alloc, drops.as_slice())?);
+    let mut sim = Sim::new(alloc, session, settings, segments, drops)?;
+    let common = Common {
+        session,
+        segments,
+        settings,
+        rounds,
+    };
+    let mut lists = Vec::with_capacity(alloc, feeds.len())?;
+    let fault = sim.run_all(alloc, &common, feeds, loaded, &mut lists)?;
+    sim.lawful();
+    let histories = sim.into_histories(alloc)?;
+    Ok(FirstRun {
+        rows: RowLists::from_vec(lists),
+        histories,
+        fault,
+    })
 }

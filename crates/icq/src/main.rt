@@ -19,8 +19,8 @@ fn words(rt: &HostRuntime) -> io::Result<Vec<String>> {
 fn without_words(rt: &HostRuntime, error: &io::Error) -> Report {
     let mut sink = StdSink::new(io::writer(rt));
     match error.kind() {
-        io::ErrorKind::OutOfMemory => refuse(&mut sink, Stop::Memory),
-        _ => refuse(&mut sink, Stop::Usage),
+        io::ErrorKind::OutOfMemory => refuse(rt.alloc(), &mut sink, &Stop::Memory),
+        _ => refuse(rt.alloc(), &mut sink, &Stop::Usage),
     }
 }
 

@@ -1,8 +1,10 @@
 pub mod SoFar
 pub mod WordLemmas
-pub mod MemberLemmas
-pub mod Values
-pub mod DealLemmas
 pub mod Fronts
-pub mod Carried
+pub mod Taking
+pub mod Printing
+pub mod FirstFaults
+pub mod Telling
+pub mod Gathering
 pub mod Delivering
+pub mod Causes

@@ -1,12 +1,8 @@
 pub mod Steps
 pub mod Words
-pub mod Members
-pub mod Table
-pub mod Document
-pub mod Deal
-pub mod Laws
 pub mod Text
 pub mod Stops
+pub mod Judging
 pub mod Print
 pub mod Outcome
 pub mod Work

@@ -1,66 +1,34 @@
 -- What the parts of the command give.
-use Rattle.std.specs.Prelude.{◌≡◌, ◌≢◌, ◌⊎◌, ℕ, ◌+◌, ◌<◌, List, [], ◌∷◌, ◌++◌, length, take, map, true, false, nat_lt, Option, Some, None, Result, Ok, Err, IfSome}
-use Rattle.std.specs.List.{concat}
+use Rattle.std.specs.Prelude.{◌≡◌, ◌≢◌, ◌⊎◌, ℕ, ◌+◌, ◌<◌, ◌≤◌, List, [], ◌∷◌, ◌++◌, length, take, map, true, false, Option, Some, None, Result, Ok, Err, IfSome, slice_get}
+use Rattle.std.specs.List.{concat, flat_map, AllByRecursion}
 use Rattle.std.specs.Io.KnownBytes.{Appends}
 use Rattle.ic_edge.specs.Causes.{TakesAFront}
+use Rattle.pl_tree.specs.declared.node.Plan.{Plan}
+use Rattle.pl_plan.specs.declared.sound.Judged.{Judged}
+use Rattle.pl_plan.specs.Rules.{Given}
+use Rattle.pl_read.specs.declared.document.Document.{Document}
+use Rattle.pl_read.specs.Limits.{IsDocument, HasShortTexts}
+use Rattle.pl_read.specs.Documents.{reading}
+use Rattle.tb_load.specs.Kept.{loaded_of}
+use Rattle.gd_sim.specs.declared.feed.Feed.{Feed}
 use Rattle.gd_sim.specs.declared.run.FirstRun.{FirstRun}
-use Rattle.gd_sim.specs.Rounds.{is_over}
-use Rattle.icq_top.specs.Table.{AreCarried}
-use Rattle.icq_top.specs.Document.{form_of}
-use Rattle.icq_top.specs.Deal.{dealt}
-use Rattle.icq_top.specs.Stops.{error_text}
-use Rattle.icq_top.specs.Outcome.{Reads, Delivers, outcome}
-use Rattle.icq_top.specs.Print.{run_lines}
+use Rattle.gd_sim.specs.declared.run.FirstNo.{FirstNo}
+use Rattle.gd_sim.specs.Plans.{feeds_of, IsRunOf}
+use Rattle.gd_sim.specs.Tallying.{AreTallies}
+use Rattle.icq_top.specs.Stops.{error_text, status_of_stop, status_of_fault, fault_text}
+use Rattle.icq_top.specs.Judging.{refusal_from, judged_by}
+use Rattle.icq_top.specs.Print.{WroteLines, answer_lines, rows_in, tallies_in}
+use Rattle.icq_top.specs.Outcome.{Reads, Leads, RunWrites, given_in, judged_in, is_too_long, judged_end}
+use Rattle.icq_top.specs.declared.print.Answer.{Answer}
+use Rattle.icq_top.specs.declared.print.PrintNo.{PrintNo}
+use Rattle.icq_top.specs.declared.print.PrintNo.TheVariants as no_
 use Rattle.icq_top.specs.declared.command.Ended.{Ended}
 use Rattle.icq_top.specs.declared.command.Ended.TheVariants.{Traced}
-use Rattle.icq_top.specs.declared.form.FirstForm.{FirstForm}
+use Rattle.icq_top.specs.declared.running.Ran.{Ran}
 use Rattle.icq_top.specs.declared.stop.Stop.{Stop}
-use Rattle.icq_top.specs.declared.stop.Stop.TheVariants.{Usage, ReadFault, TooLong, NotBuilt, Unfinished, Memory}
+use Rattle.icq_top.specs.declared.stop.Stop.TheVariants.{Usage, ReadFault, TooLong, Unread, Unsound, NotBuilt, Memory}
 
--- a document of one to 64 segments, whose rows have at most 256 whole numbers each
-pub record IsForm (form : FirstForm) : Type 0 where
-  pub some : 0 < form.segments
-  pub few : form.segments < 65
-  pub rows : AreCarried form.rows
-
--- what comes of the source's bytes
-abbrev pub GivesForm : Option (List ℕ) → Result FirstForm Stop → Type 0
-GivesForm left (Ok form) = IsForm form × IfSome left (λ bytes. (nat_lt 67108864 (length bytes) ≡ false) × (form_of bytes ≡ Some form))
-GivesForm left (Err TooLong) = IfSome left (λ bytes. nat_lt 67108864 (length bytes) ≡ true)
-GivesForm left (Err NotBuilt) = IfSome left (λ bytes. (nat_lt 67108864 (length bytes) ≡ false) × (form_of bytes ≡ None))
-GivesForm left (Err ReadFault) = Unit {0}
-GivesForm left (Err Memory) = Unit {0}
-GivesForm left (Err Usage) = ⊥
-GivesForm left (Err Unfinished) = ⊥
-
--- a run of a document, which delivered its rows
-abbrev pub IsRunOf : FirstForm → FirstRun → Type 0
-IsRunOf form run = Delivers form run.histories run.rows run.tallies
-
--- what comes of a document
-abbrev pub RunsForm : List ℕ → FirstForm → Result FirstRun Stop → Type 0
-RunsForm drops form (Ok run) = IsRunOf form run × (is_over 100000 form.session drops (dealt form.segments form.rows) ≡ true)
-RunsForm drops form (Err Unfinished) = is_over 100000 form.session drops (dealt form.segments form.rows) ≡ false
-RunsForm drops form (Err Memory) = Unit {0}
-RunsForm drops form (Err Usage) = ⊥
-RunsForm drops form (Err ReadFault) = ⊥
-RunsForm drops form (Err TooLong) = ⊥
-RunsForm drops form (Err NotBuilt) = ⊥
-
--- what comes of the words and the source
-pub record IsWorked (words : List (List ℕ)) (left : Option (List ℕ)) (run : FirstRun) : Type 0 where
-  pub form : FirstForm
-  pub reads : Reads words left form
-  pub run_of : IsRunOf form run
-
-abbrev pub Works : List (List ℕ) → Option (List ℕ) → Result FirstRun Stop → Type 0
-Works words left (Ok run) = IsWorked words left run
-Works words left (Err ReadFault) = Unit {0}
-Works words left (Err Memory) = Unit {0}
-Works words left (Err Usage) = IfSome left (λ bytes. outcome words bytes ≡ Err Usage)
-Works words left (Err TooLong) = IfSome left (λ bytes. outcome words bytes ≡ Err TooLong)
-Works words left (Err NotBuilt) = IfSome left (λ bytes. outcome words bytes ≡ Err NotBuilt)
-Works words left (Err Unfinished) = IfSome left (λ bytes. outcome words bytes ≡ Err Unfinished)
+-- ---- reading
 
 -- the sends that the words lose, or why there are none
 abbrev pub GivesDrops : Option (List ℕ) → Result (List ℕ) Stop → Type 0
@@ -69,16 +37,121 @@ GivesDrops told (Err Usage) = told ≡ None
 GivesDrops told (Err Memory) = Unit {0}
 GivesDrops told (Err ReadFault) = ⊥
 GivesDrops told (Err TooLong) = ⊥
+GivesDrops told (Err (Unread fault)) = ⊥
+GivesDrops told (Err (Unsound query fault)) = ⊥
 GivesDrops told (Err NotBuilt) = ⊥
-GivesDrops told (Err Unfinished) = ⊥
+
+-- a document as it is read, of bytes that 32 bits count
+pub record IsRead (d : Document) : Type 0 where
+  pub limits : IsDocument d
+  pub texts : HasShortTexts d
+
+-- what comes of the source's bytes
+abbrev pub GivesDocument : Option (List ℕ) → Result Document Stop → Type 0
+GivesDocument left (Ok d) = IsRead d × IfSome left (λ bytes. (is_too_long bytes ≡ false) × (reading bytes ≡ Ok d))
+GivesDocument left (Err TooLong) = IfSome left (λ bytes. is_too_long bytes ≡ true)
+GivesDocument left (Err (Unread fault)) = IfSome left (λ bytes. (is_too_long bytes ≡ false) × (reading bytes ≡ Err fault))
+GivesDocument left (Err ReadFault) = Unit {0}
+GivesDocument left (Err Memory) = Unit {0}
+GivesDocument left (Err Usage) = ⊥
+GivesDocument left (Err (Unsound query fault)) = ⊥
+GivesDocument left (Err NotBuilt) = ⊥
+
+-- ---- judging
+
+-- the plans as they were judged, where none is refused, or the first refusal
+abbrev pub JudgesAll : Given → List Plan → Result (List Judged) Stop → Type 0
+JudgesAll g plans (Ok judged) = (judged ≡ map (judged_by g) plans) × (refusal_from g 1 plans ≡ None)
+JudgesAll g plans (Err (Unsound query fault)) = refusal_from g 1 plans ≡ Some (Unsound query fault)
+JudgesAll g plans (Err Memory) = Unit {0}
+JudgesAll g plans (Err Usage) = ⊥
+JudgesAll g plans (Err ReadFault) = ⊥
+JudgesAll g plans (Err TooLong) = ⊥
+JudgesAll g plans (Err (Unread fault)) = ⊥
+JudgesAll g plans (Err NotBuilt) = ⊥
+
+-- ---- running
+
+-- there is a feed for each query that is over, and 64 segments send at most
+pub record IsBounded (ran : Ran) : Type 0 where
+  pub count : length ran.run.rows ≤ length ran.feeds.items
+  pub few : length ran.feeds.items ≤ 64
+  pub senders : AllByRecursion (λ feed. feed.senders ≤ 64) ran.feeds.items
+
+-- a run of the document, with what each query gathers
+pub record IsRanOf (d : Document) (ran : Ran) : Type 0 where
+  pub read : IsRead d
+  pub session : ran.session ≡ d.session
+  pub bounded : IsBounded ran
+  pub feeds : feeds_of (judged_in d) ≡ Some ran.feeds.items
+  pub is_run : IsRunOf d.session d.segments 100000 d.settings (loaded_of d) (judged_in d) ran.run
+
+-- the document runs, or is refused
+abbrev pub RunsDocument : Document → Result Ran Stop → Type 0
+RunsDocument d (Ok ran) = IsRanOf d ran × (judged_end d (refusal_from (given_in d) 1 d.queries) ≡ Ok d)
+RunsDocument d (Err (Unsound query fault)) = judged_end d (refusal_from (given_in d) 1 d.queries) ≡ Err (Unsound query fault)
+RunsDocument d (Err NotBuilt) = judged_end d (refusal_from (given_in d) 1 d.queries) ≡ Err NotBuilt
+RunsDocument d (Err Memory) = Unit {0}
+RunsDocument d (Err Usage) = ⊥
+RunsDocument d (Err ReadFault) = ⊥
+RunsDocument d (Err TooLong) = ⊥
+RunsDocument d (Err (Unread fault)) = ⊥
+
+-- what comes of the words and the source
+pub record IsWorked (words : List (List ℕ)) (left : Option (List ℕ)) (ran : Ran) : Type 0 where
+  pub document : Document
+  pub reads : Reads words left document
+  pub ran_of : IsRanOf document ran
+
+abbrev pub Works : List (List ℕ) → Option (List ℕ) → Result Ran Stop → Type 0
+Works words left (Ok ran) = IsWorked words left ran
+Works words left (Err stop) = Leads words left stop
 
 -- ---- the answer to a run
 
--- its text was written, or the first lines of it and the line of want of memory, or a front of one of these
-pub record IsAnswered (wrote_old wrote_new : Option (List ℕ)) (run : FirstRun) (status : ℕ) (told : Option Ended) : Type 0 where
-  pub statuses : (status ≡ 0) ⊎ ((status ≡ 10) ⊎ (status ≡ 5))
-  pub whole : status ≡ 0 → (told ≡ Some (Traced run.histories)) × Appends wrote_old wrote_new (concat (run_lines run))
-  pub ended : status ≢ 0 → told ≡ None
-  pub cut : status ≡ 10 → (n : ℕ) × Appends wrote_old wrote_new (concat (take n (run_lines run)) ++ error_text Memory)
-  pub front : status ≡ 5 → TakesAFront wrote_old wrote_new (concat (run_lines run))
-      ⊎ ((n : ℕ) × TakesAFront wrote_old wrote_new (concat (take n (run_lines run)) ++ error_text Memory))
+-- of the query of this place, from 0: the tallies of the segments that send
+abbrev pub HasTallies : Ran → ℕ → Answer → Type 0
+HasTallies ran place a = (feed : Feed) → slice_get ran.feeds.items place ≡ Some feed → AreTallies ran.session (place + 1) feed.senders ran.run.histories a.tallies
+
+-- the answers of the queries that are over
+pub record AreAnswers (ran : Ran) (answers : List Answer) : Type 0 where
+  pub rows : map rows_in answers ≡ ran.run.rows
+  pub told : (place : ℕ) (a : Answer) → slice_get answers place ≡ Some a → HasTallies ran place a
+
+-- Their lines were written, or a front of them. Where memory ran out it may be that there are no tallies, and nothing was
+-- written.
+abbrev pub PrintsRun : Option (List ℕ) → Option (List ℕ) → Ran → Result (Unit {0}) PrintNo → Type 0
+PrintsRun old new ran (Ok u) = (answers : List Answer) × AreAnswers ran answers × Appends old new (concat (flat_map answer_lines answers))
+PrintsRun old new ran (Err no_.Failed) = (answers : List Answer) × AreAnswers ran answers × TakesAFront old new (concat (flat_map answer_lines answers))
+PrintsRun old new ran (Err no_.Memory) = Appends old new [] ⊎ ((answers : List Answer) × AreAnswers ran answers × WroteLines old new (flat_map answer_lines answers))
+
+-- what was written is what some status has to write, and with 5 a front of what another one has
+pub record IsTold (May : ℕ → List ℕ → Type 0) (wrote_old wrote_new : Option (List ℕ)) (status : ℕ) : Type 0 where
+  pub written : status ≢ 5 → (text : List ℕ) × May status text × Appends wrote_old wrote_new text
+  pub cut : status ≡ 5 → (other : ℕ) × (text : List ℕ) × (other ≢ 5) × May other text × TakesAFront wrote_old wrote_new text
+
+-- this text with this status
+abbrev pub Says : ℕ → List ℕ → ℕ → List ℕ → Type 0
+Says status text s t = (s ≡ status) × (t ≡ text)
+
+-- the line of a stop, or that of want of memory
+pub data StopWrites (stop : Stop) : ℕ → List ℕ → Type 0 where
+  whole : StopWrites stop (status_of_stop stop) (error_text stop)
+  memory : StopWrites stop 10 (error_text Memory)
+
+-- behind the answers: nothing, the line of the fault, or that of want of memory
+pub data EndWrites (run : FirstRun) : ℕ → List ℕ → Type 0 where
+  nothing : run.fault ≡ None → EndWrites run 0 []
+  fault : (refusal : FirstNo) → run.fault ≡ Some refusal → EndWrites run (status_of_fault refusal) (fault_text (length run.rows + 1) refusal)
+  memory : EndWrites run 10 (error_text Memory)
+
+-- all of it, with some tallies, or the line of want of memory where there are none
+pub data RanWrites (ran : Ran) : ℕ → List ℕ → Type 0 where
+  all : (answers : List Answer) (status : ℕ) (text : List ℕ) → AreAnswers ran answers → RunWrites ran.run (map tallies_in answers) status text → RanWrites ran status text
+  memory : RanWrites ran 10 (error_text Memory)
+
+-- the histories are handed back with the statuses of a run that ended, and with no other
+pub record HandsBack (run : FirstRun) (status : ℕ) (ended : Option Ended) : Type 0 where
+  pub whole : status ≢ 5 → status ≢ 10 → ended ≡ Some (Traced run.histories)
+  pub cut : status ≡ 5 → ended ≡ None
+  pub memory : status ≡ 10 → ended ≡ None

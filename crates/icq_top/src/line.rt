@@ -2,9 +2,13 @@
 ghost use Rattle.std.specs.Prelude.{◌≡◌, ◌++◌, ℕ, List, [], OnOk, string_bytes, codes};
 ghost use Rattle.serde_json.specs.Data.{string};
 ghost use Rattle.serde_json.specs.Written.{compact_text};
+ghost use Rattle.icq_top.specs.Stops.{error_text, fault_text};
 ghost use Rattle.icq_top.specs.Text.{row_text, value_text, tally_ends, tally_counts, tally_text, end_text};
 
-use gd_sim::Tally;
+use crate::stop::{
+    Stop, push_key, push_measure, push_tries, push_unfinished, push_unread, push_unsound,
+};
+use gd_sim::{FirstNo, Tally};
 use ic_row::{Row, Value};
 use serde_json::Value as Json;
 use std::alloc::AllocError;
@@ -36,6 +40,60 @@ impl Line for Tally {
         push_counts(line, self)?;
         line.push_str(end_name(self.whole))?;
         line.push_str("\n")
+    }
+}
+
+impl Line for Stop {
+    ghost text = { error_text };
+
+    fn push_line(&self, line: &mut String) -> Result<(), AllocError> {
+        match self {
+            Stop::Usage => line.push_str("error 1 usage\n"),
+            Stop::ReadFault => line.push_str("error 4 read\n"),
+            Stop::TooLong => line.push_str("error 11 input too long\n"),
+            Stop::Unread(fault) => {
+                line.push_str("error 2 document code ")?;
+                push_unread(line, fault)
+            }
+            Stop::Unsound { query, fault } => {
+                line.push_str("error 3 plan query ")?;
+                push_unsound(line, *query, fault)?;
+                push_measure(line, fault.rule)?;
+                line.push_str("\n")
+            }
+            Stop::NotBuilt => line.push_str("error 15 not built\n"),
+            Stop::Memory => line.push_str("error 10 memory\n"),
+        }
+    }
+}
+
+/// Why the query of this number, from 1, isn't over.
+#[derive(Clone, Copy)]
+pub(crate) struct Broken {
+    pub query: usize,
+    pub fault: FirstNo,
+}
+
+impl Line for Broken {
+    ghost text = { λ b. fault_text b.query b.fault };
+
+    fn push_line(&self, line: &mut String) -> Result<(), AllocError> {
+        match &self.fault {
+            FirstNo::Unfinished(rounds) => {
+                line.push_str("error 9 unfinished query ")?;
+                push_unfinished(line, self.query, *rounds)
+            }
+            FirstNo::Spent { key, seq, tries } => {
+                line.push_str("error 8 spent")?;
+                push_key(line, key)?;
+                push_tries(line, *seq, *tries)
+            }
+            FirstNo::TooLong(key) => {
+                line.push_str("error 12 stream too long")?;
+                push_key(line, key)?;
+                line.push_str("\n")
+            }
+        }
     }
 }
 

@@ -1,15 +1,16 @@
 // Lines handed to a sink, each in writes of its own.
-ghost use Rattle.std.specs.Prelude.{◌≡◌, ◌≤◌, OnOk, IsErrOf, map};
+ghost use Rattle.std.specs.Prelude.{◌≡◌, ◌≤◌, OnOk, IsErrOf, map, flat_map};
 ghost use Rattle.std.specs.List.{concat};
 ghost use Rattle.std.specs.Io.KnownBytes.{Appends};
-ghost use Rattle.ic_edge.specs.Causes.{HasCause, Rose, TakesAFront};
-ghost use Rattle.icq_top.specs.Print.{WroteLines, run_lines};
+ghost use Rattle.ic_edge.specs.Causes.{Rose, TakesAFront};
+ghost use Rattle.icq_top.specs.Print.{WroteLines, answer_lines};
 ghost use Rattle.icq_top.specs.declared.print.PrintNo.TheVariants.{Memory};
 
 use crate::line::Line;
-use gd_sim::FirstRun;
+use gd_sim::Tallies;
 use ic_edge::{Failed, Sink, write_all};
-use std::alloc::{AllocError, Global};
+use ic_row::Row;
+use std::alloc::AllocError;
 
 /// Why not all lines were written.
 #[derive(Clone, Copy, Debug, PartialEq, Eq)]
@@ -51,17 +52,48 @@ pub fn print_lines<K: Sink, L: Line>(
     Ok(())
 }
 
-/// Writes the rows of a run and then its tallies.
-pub fn print_run<K: Sink>(alloc: Global, sink: &mut K, run: &FirstRun) -> Result<(), PrintNo>
-    ensures ok { OnOk result (Appends (K.wrote sink.old) (K.wrote sink.new) (concat (run_lines run.now))) }
-    ensures failed { IsErrOf result PrintNo.Failed → TakesAFront (K.wrote sink.old) (K.wrote sink.new) (concat (run_lines run.now)) }
-    ensures memory { IsErrOf result PrintNo.Memory → WroteLines (K.wrote sink.old) (K.wrote sink.new) (run_lines run.now) }
+/// The rows of a query that is over, and what its connections did.
+#[derive(Drop)]
+pub struct Answer<'r> {
+    pub rows: &'r [Row],
+    pub tallies: Tallies,
+}
+
+/// Writes the rows of a query and then its tallies.
+fn print_answer<K: Sink>(
+    sink: &mut K,
+    buffer: &mut String,
+    answer: &Answer<'_>,
+) -> Result<(), PrintNo>
+    ensures ok { OnOk result (Appends (K.wrote sink.old) (K.wrote sink.new) (concat (answer_lines answer.now))) }
+    ensures failed { IsErrOf result PrintNo.Failed → TakesAFront (K.wrote sink.old) (K.wrote sink.new) (concat (answer_lines answer.now)) }
+    ensures memory { IsErrOf result PrintNo.Memory → WroteLines (K.wrote sink.old) (K.wrote sink.new) (answer_lines answer.now) }
     ensures cause { IsErrOf result PrintNo.Failed → Rose (K.count sink.old) (K.count sink.new) }
     ensures later { K.count sink.old ≤ K.count sink.new }
 {
-    let mut buffer = String::new(alloc);
-    match print_lines(sink, &mut buffer, run.rows.as_slice()) {
-        Ok(()) => print_lines(sink, &mut buffer, run.tallies.as_slice()),
+    match print_lines(sink, buffer, answer.rows) {
+        Ok(()) => print_lines(sink, buffer, answer.tallies.as_slice()),
         Err(no) => Err(no),
     }
+}
+
+/// Writes the rows and tallies of each query, one query behind the other.
+pub fn print_answers<K: Sink>(
+    sink: &mut K,
+    buffer: &mut String,
+    answers: &[Answer<'_>],
+) -> Result<(), PrintNo>
+    ensures ok { OnOk result (Appends (K.wrote sink.old) (K.wrote sink.new) (concat (flat_map answer_lines answers.now))) }
+    ensures failed { IsErrOf result PrintNo.Failed → TakesAFront (K.wrote sink.old) (K.wrote sink.new) (concat (flat_map answer_lines answers.now)) }
+    ensures memory { IsErrOf result PrintNo.Memory → WroteLines (K.wrote sink.old) (K.wrote sink.new) (flat_map answer_lines answers.now) }
+    ensures cause { IsErrOf result PrintNo.Failed → Rose (K.count sink.old) (K.count sink.new) }
+    ensures later { K.count sink.old ≤ K.count sink.new }
+{
+    for answer in answers {
+        match print_answer(sink, buffer, answer) {
+            Ok(()) => {}
+            Err(no) => return Err(no),
+        }
+    }
+    Ok(())
 }

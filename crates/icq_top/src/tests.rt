@@ -1,5 +1,5 @@
 // What no clause says: that memory serves, and how texts look.
-mod documents;
 mod lines;
+mod refusals;
 mod runs;
 mod words;

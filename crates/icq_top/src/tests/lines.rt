@@ -1,11 +1,13 @@
-// Dealing and text.
-use crate::dealing::deal;
+// The text of lines.
+use crate::line::{Broken, Line};
 use crate::print::{PrintNo, print_lines};
-use crate::stop::Stop;
-use gd_sim::Tally;
+use crate::stop::{Stop, fault_status};
+use gd_sim::{FirstNo, Tally};
 use ic_base::{ConnKey, SegId, Text};
 use ic_edge::{Fail, Fails, MemSink};
 use ic_row::{Row, Rows, Value};
+use pl_plan::{PlanFault, Rule};
+use pl_read::DocFault;
 use std::alloc::{AllocError, Global};
 use std::test::Fail as TestFail;
 
@@ -42,24 +44,6 @@ fn counting(alloc: Global, count: i64) -> Result<Rows, AllocError> {
         rows.push(row(alloc, &[value])?)?;
     }
     Ok(rows)
-}
-
-#[test]
-fn rows_are_dealt_in_turn(rt: HostRuntime) -> Result<(), TestFail> {
-    let alloc = rt.alloc();
-    let parts = deal(alloc, counting(alloc, 7)?, 3)?;
-    let mut sink = sink(alloc)?;
-    let mut buffer = String::new(alloc);
-    for part in parts.as_slice() {
-        assert_eq!(rt;
-            print_lines(&mut sink, &mut buffer, part.as_slice()),
-            Ok(())
-        );
-        assert!(rt; print_lines(&mut sink, &mut buffer, &[row(alloc, &[])?]).is_ok());
-    }
-    let wanted = "[0]\n[3]\n[6]\n[]\n[1]\n[4]\n[]\n[2]\n[5]\n[]\n";
-    assert_eq!(rt; sink.bytes(), wanted.as_bytes());
-    Ok(())
 }
 
 #[test]
@@ -111,7 +95,7 @@ fn a_text_is_quoted_as_in_json(rt: HostRuntime) -> Result<(), TestFail> {
 }
 
 /// What the connection of a gather did.
-fn tally(from: SegId, taken: u64, whole: bool) -> Tally {
+fn tally(from: SegId, taken: u128, whole: bool) -> Tally {
     Tally {
         key: ConnKey {
             session: 7,
@@ -156,22 +140,87 @@ fn a_write_that_fails_ends_the_text_where_it_stands(rt: HostRuntime) -> Result<(
     Ok(())
 }
 
+/// The line of an item.
+fn line_of<L: Line>(alloc: Global, item: &L) -> Result<String, AllocError> {
+    let mut line = String::new(alloc);
+    item.push_line(&mut line)?;
+    Ok(line)
+}
+
 #[test]
-fn each_stop_has_its_status_in_its_line(rt: HostRuntime) {
+fn each_stop_has_its_status_in_its_line(rt: HostRuntime) -> Result<(), TestFail> {
+    let alloc = rt.alloc();
+    let unread = Stop::Unread(DocFault {
+        code: 7,
+        path: Text::from_string(String::from_str(alloc, "$.tables[0].rows[1]")?),
+    });
+    let unsound = |rule| Stop::Unsound {
+        query: 3,
+        fault: PlanFault { node: 4, rule },
+    };
     let table = [
         (Stop::Usage, 1, "error 1 usage\n"),
-        (Stop::ReadFault, 4, "error 4 read\n"),
         (
-            Stop::Unfinished,
-            9,
-            "error 9 unfinished query 1 rounds 100000\n",
+            unread,
+            2,
+            "error 2 document code 7 path $.tables[0].rows[1]\n",
         ),
+        (
+            unsound(Rule::AggLocus),
+            3,
+            "error 3 plan query 3 node 4 rule 5\n",
+        ),
+        (
+            unsound(Rule::TooWide(2147483649)),
+            3,
+            "error 3 plan query 3 node 4 rule 11 bytes 2147483649\n",
+        ),
+        (
+            unsound(Rule::TooMany(1025)),
+            3,
+            "error 3 plan query 3 node 4 rule 12 workers 1025\n",
+        ),
+        (Stop::ReadFault, 4, "error 4 read\n"),
         (Stop::Memory, 10, "error 10 memory\n"),
         (Stop::TooLong, 11, "error 11 input too long\n"),
         (Stop::NotBuilt, 15, "error 15 not built\n"),
     ];
-    for (stop, status, line) in table {
-        assert_eq!(rt; stop.status(), status, "at {line}");
-        assert_eq!(rt; stop.line(), line);
+    for (stop, status, wanted) in table {
+        assert_eq!(rt; stop.status(), status, "at {wanted}");
+        assert_eq!(rt; line_of(alloc, &stop)?.as_str(), wanted);
     }
+    Ok(())
+}
+
+#[test]
+fn each_fault_names_its_query_and_its_connection(rt: HostRuntime) -> Result<(), TestFail> {
+    let alloc = rt.alloc();
+    let key = tally(SegId::new(5).ok_or("5 is a segment")?, 0, false).key;
+    let table = [
+        (
+            FirstNo::Unfinished(100000),
+            9,
+            "error 9 unfinished query 2 rounds 100000\n",
+        ),
+        (
+            FirstNo::Spent {
+                key,
+                seq: 6,
+                tries: 20,
+            },
+            8,
+            "error 8 spent query 1 motion 2 from 5 to -1 seq 6 tries 20\n",
+        ),
+        (
+            FirstNo::TooLong(key),
+            12,
+            "error 12 stream too long query 1 motion 2 from 5 to -1\n",
+        ),
+    ];
+    for (fault, status, wanted) in table {
+        assert_eq!(rt; fault_status(&fault), status, "at {wanted}");
+        let broken = Broken { query: 2, fault };
+        assert_eq!(rt; line_of(alloc, &broken)?.as_str(), wanted);
+    }
+    Ok(())
 }

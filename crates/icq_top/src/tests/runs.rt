@@ -1,11 +1,17 @@
 // Whole runs, from the words and the bytes to the text.
 use crate::command::{Report, sim_command};
-use crate::tests::documents::EXAMPLE;
 use crate::tests::words::words_of;
 use ic_base::Bytes;
 use ic_edge::{Fail, Fails, MemSink, MemSource};
 use std::alloc::{AllocError, Global};
 use std::test::Fail as TestFail;
+
+/// The example that other documents vary.
+pub(crate) const EXAMPLE: &str =
+    r#"{"session":7,"segments":2,"tables":[{"name":"t","columns":[["a","int"]],"rows":[[10],[11],[12],[13]]}],"queries":[{"op":"gather","child":{"op":"scan","table":"t"}}]}"#;
+
+/// What it writes.
+const ANSWER: &str = "[10]\n[12]\n[11]\n[13]\n# 1 1 0 -1 2 2 1 0 whole\n# 1 1 1 -1 2 2 1 0 whole\n";
 
 /// The call with this number, from 1, fails; none does at 0.
 fn failing(alloc: Global, nth: u32) -> Result<Fails, AllocError> {
@@ -14,39 +20,41 @@ fn failing(alloc: Global, nth: u32) -> Result<Fails, AllocError> {
 }
 
 /// What a run answers and writes, where this read and this write fail.
-fn run(
+pub(crate) fn run(
     alloc: Global,
     line: &str,
-    text: &str,
+    text: &[u8],
     read: u32,
     write: u32,
 ) -> Result<(Report, MemSink), AllocError> {
     let words = words_of(alloc, line)?;
-    let bytes = Bytes::from_slice(alloc, text.as_bytes())?;
+    let bytes = Bytes::from_slice(alloc, text)?;
     let mut source = MemSource::new(bytes, failing(alloc, read)?);
     let mut sink = MemSink::new(alloc, failing(alloc, write)?)?;
     let report = sim_command(alloc, &words, &mut source, &mut sink);
     Ok((report, sink))
 }
 
+/// The example with these texts in place of those, which are there.
+pub(crate) fn varied(alloc: Global, changes: &[(&str, &str)]) -> Result<String, AllocError> {
+    let mut text = String::from_str(alloc, EXAMPLE)?;
+    for (old, new) in changes {
+        text = text.replace(alloc, old, new)?;
+    }
+    Ok(text)
+}
+
 #[test]
-fn rows_come_behind_what_was_lost(rt: HostRuntime) -> Result<(), TestFail> {
+fn rows_come_by_sender_and_behind_what_was_lost(rt: HostRuntime) -> Result<(), TestFail> {
     let table = [
+        ("sim", ANSWER),
         (
-            "sim",
-            "[10]\n[11]\n[12]\n[13]\n# 1 1 0 -1 2 2 3 0 whole\n# 1 1 1 -1 2 2 3 0 whole\n",
-        ),
-        (
-            "sim drop=1",
-            "[11]\n[13]\n[10]\n[12]\n# 1 1 0 -1 2 2 3 1 whole\n# 1 1 1 -1 2 2 3 0 whole\n",
-        ),
-        (
-            "sim drop=3",
-            "[10]\n[11]\n[13]\n[12]\n# 1 1 0 -1 2 2 3 1 whole\n# 1 1 1 -1 2 2 3 0 whole\n",
+            "sim drop=1,2",
+            "[10]\n[12]\n[11]\n[13]\n# 1 1 0 -1 2 2 1 1 whole\n# 1 1 1 -1 2 2 1 1 whole\n",
         ),
     ];
     for (line, wanted) in table {
-        let (report, sink) = run(rt.alloc(), line, EXAMPLE, 0, 0)?;
+        let (report, sink) = run(rt.alloc(), line, EXAMPLE.as_bytes(), 0, 0)?;
         assert_eq!(rt; report.status, 0, "at {line}");
         assert!(rt; report.ended.is_some(), "at {line}");
         assert!(rt; sink.bytes() == wanted.as_bytes(), "at {line}");
@@ -55,39 +63,139 @@ fn rows_come_behind_what_was_lost(rt: HostRuntime) -> Result<(), TestFail> {
 }
 
 #[test]
-fn a_table_without_rows_sends_ends_alone(rt: HostRuntime) -> Result<(), TestFail> {
-    let text = EXAMPLE.replace(rt.alloc(), "[10],[11],[12],[13]", "")?;
-    let (report, sink) = run(rt.alloc(), "sim", text.as_str(), 0, 0)?;
-    assert_eq!(rt; report.status, 0);
-    let wanted = "# 1 1 0 -1 0 0 1 0 whole\n# 1 1 1 -1 0 0 1 0 whole\n";
-    assert_eq!(rt; sink.bytes(), wanted.as_bytes());
-    Ok(())
-}
-
-#[test]
-fn a_refusal_is_one_line(rt: HostRuntime) -> Result<(), TestFail> {
-    let table = [
-        ("run", EXAMPLE, 0, 1, "error 1 usage\n"),
-        ("run", "", 1, 1, "error 1 usage\n"),
-        ("sim", EXAMPLE, 1, 4, "error 4 read\n"),
-        ("sim", "{}", 2, 4, "error 4 read\n"),
-        ("sim", "{}", 0, 15, "error 15 not built\n"),
+fn tables_are_gathered_as_they_are_placed(rt: HostRuntime) -> Result<(), TestFail> {
+    let table: [(&str, &[(&str, &str)], &str); 4] = [
+        (
+            "no rows",
+            &[("[10],[11],[12],[13]", "")],
+            "# 1 1 0 -1 0 0 1 0 whole\n# 1 1 1 -1 0 0 1 0 whole\n",
+        ),
+        (
+            "replicated: segment 0 alone sends",
+            &[
+                ("[10],[11],[12],[13]", "[1],[2]"),
+                ("\"name\":\"t\"", "\"name\":\"t\",\"replicated\":true"),
+            ],
+            "[1]\n[2]\n# 1 1 0 -1 2 2 1 0 whole\n",
+        ),
+        (
+            "nulls and texts",
+            &[
+                ("[[\"a\",\"int\"]]", "[[\"a\",\"int\"],[\"b\",\"text\"]]"),
+                ("[10],[11],[12],[13]", "[null,\"a\\n\\\"\"],[-1,null]"),
+            ],
+            "[null,\"a\\n\\\"\"]\n[-1,null]\n# 1 1 0 -1 1 1 1 0 whole\n# 1 1 1 -1 1 1 1 0 whole\n",
+        ),
+        (
+            "no queries",
+            &[(
+                "{\"op\":\"gather\",\"child\":{\"op\":\"scan\",\"table\":\"t\"}}",
+                "",
+            )],
+            "",
+        ),
     ];
-    for (line, text, read, status, wanted) in table {
-        let (report, sink) = run(rt.alloc(), line, text, read, 0)?;
-        assert_eq!(rt; report.status, status, "at {wanted}");
-        assert!(rt; report.ended.is_none(), "at {wanted}");
-        assert!(rt; sink.bytes() == wanted.as_bytes(), "at {wanted}");
+    for (what, changes, wanted) in table {
+        let text = varied(rt.alloc(), changes)?;
+        let (report, sink) = run(rt.alloc(), "sim", text.as_bytes(), 0, 0)?;
+        assert_eq!(rt; report.status, 0, "{what}");
+        assert!(rt; sink.bytes() == wanted.as_bytes(), "{what}");
     }
     Ok(())
 }
 
 #[test]
-fn a_read_that_fails_is_a_read_fault_whichever_it_is(rt: HostRuntime) -> Result<(), TestFail> {
-    for (read, status) in [(1, 4), (2, 4), (3, 0)] {
-        let (report, _) = run(rt.alloc(), "sim", EXAMPLE, read, 0)?;
-        assert_eq!(rt; report.status, status, "at read {read}");
+fn queries_answer_one_behind_the_other(rt: HostRuntime) -> Result<(), TestFail> {
+    let plan = "{\"op\":\"gather\",\"child\":{\"op\":\"scan\",\"table\":\"t\"}}";
+    let twice = format!(in rt.alloc(); "{plan},{plan}")?;
+    let text = varied(rt.alloc(), &[(plan, twice.as_str())])?;
+    let (report, sink) = run(rt.alloc(), "sim", text.as_bytes(), 0, 0)?;
+    assert_eq!(rt; report.status, 0);
+    let wanted = "[10]\n[12]\n[11]\n[13]\n# 1 1 0 -1 2 2 1 0 whole\n# 1 1 1 -1 2 2 1 0 whole\n\
+                  [10]\n[12]\n[11]\n[13]\n# 2 1 0 -1 2 2 1 0 whole\n# 2 1 1 -1 2 2 1 0 whole\n";
+    assert!(rt; sink.bytes() == wanted.as_bytes());
+    Ok(())
+}
+
+/// A document of one segment and packets of 128 bytes, with so many rows of one text of so many bytes.
+fn texts(
+    alloc: Global,
+    settings: &str,
+    rows: usize,
+    length: usize,
+) -> Result<(String, String), AllocError> {
+    let mut row = String::from_str(alloc, "[\"")?;
+    for _ in 0..length {
+        row.push_str("x")?;
     }
+    row.push_str("\"]")?;
+    let mut lines = String::new(alloc);
+    let mut all = String::new(alloc);
+    for at in 0..rows {
+        if at > 0 {
+            all.push_str(",")?;
+        }
+        all.push_str(row.as_str())?;
+        lines.push_str(row.as_str())?;
+        lines.push_str("\n")?;
+    }
+    let text = varied(
+        alloc,
+        &[
+            ("\"segments\":2", "\"segments\":1,\"settings\":{SETTINGS}"),
+            ("SETTINGS", settings),
+            ("[\"a\",\"int\"]", "[\"a\",\"text\"]"),
+            ("[10],[11],[12],[13]", all.as_str()),
+        ],
+    )?;
+    Ok((text, lines))
+}
+
+#[test]
+fn a_long_text_is_cut_into_chunks_that_fill_packets(rt: HostRuntime) -> Result<(), TestFail> {
+    let table = [
+        (
+            "sim",
+            "\"packet\":128",
+            1,
+            20000,
+            "# 1 1 0 -1 1 1 358 0 whole\n",
+        ),
+        ("sim", "\"packet\":128", 1, 49, "# 1 1 0 -1 1 1 1 0 whole\n"),
+        ("sim", "\"packet\":128", 1, 50, "# 1 1 0 -1 1 1 2 0 whole\n"),
+        (
+            "sim drop=3",
+            "\"packet\":128,\"receive_depth\":1",
+            2,
+            49,
+            "# 1 1 0 -1 2 2 2 0 whole\n",
+        ),
+    ];
+    for (line, settings, rows, length, tally) in table {
+        let (text, mut wanted) = texts(rt.alloc(), settings, rows, length)?;
+        wanted.push_str(tally)?;
+        let (report, sink) = run(rt.alloc(), line, text.as_bytes(), 0, 0)?;
+        assert_eq!(rt; report.status, 0, "at {length}");
+        assert!(rt; sink.bytes() == wanted.as_bytes(), "at {length}");
+    }
+    Ok(())
+}
+
+#[test]
+fn a_fault_is_told_behind_the_queries_that_are_over(rt: HostRuntime) -> Result<(), TestFail> {
+    let one = "sim drop=1,2,3,4,5,6,7,8";
+    let text = varied(
+        rt.alloc(),
+        &[(
+            "\"segments\":2",
+            "\"segments\":1,\"settings\":{\"retries\":3}",
+        )],
+    )?;
+    let (report, sink) = run(rt.alloc(), one, text.as_bytes(), 0, 0)?;
+    assert_eq!(rt; report.status, 8);
+    assert!(rt; report.ended.is_some());
+    let wanted = "error 8 spent query 1 motion 1 from 0 to -1 seq 1 tries 3\n";
+    assert!(rt; sink.bytes() == wanted.as_bytes());
     Ok(())
 }
 
@@ -96,23 +204,16 @@ fn a_write_that_fails_leaves_the_lines_before_it(rt: HostRuntime) -> Result<(), 
     let table = [
         (1, 5, ""),
         (2, 5, "[10]\n"),
-        (3, 5, "[10]\n[11]\n"),
-        (4, 5, "[10]\n[11]\n[12]\n"),
-        (5, 5, "[10]\n[11]\n[12]\n[13]\n"),
-        (6, 5, "[10]\n[11]\n[12]\n[13]\n# 1 1 0 -1 2 2 3 0 whole\n"),
-        (
-            7,
-            0,
-            "[10]\n[11]\n[12]\n[13]\n# 1 1 0 -1 2 2 3 0 whole\n# 1 1 1 -1 2 2 3 0 whole\n",
-        ),
+        (3, 5, "[10]\n[12]\n"),
+        (4, 5, "[10]\n[12]\n[11]\n"),
+        (5, 5, "[10]\n[12]\n[11]\n[13]\n"),
+        (6, 5, "[10]\n[12]\n[11]\n[13]\n# 1 1 0 -1 2 2 1 0 whole\n"),
+        (7, 0, ANSWER),
     ];
     for (write, status, wanted) in table {
-        let (report, sink) = run(rt.alloc(), "sim", EXAMPLE, 0, write)?;
+        let (report, sink) = run(rt.alloc(), "sim", EXAMPLE.as_bytes(), 0, write)?;
         assert_eq!(rt; report.status, status, "at write {write}");
         assert!(rt; sink.bytes() == wanted.as_bytes(), "at write {write}");
     }
-    let (report, sink) = run(rt.alloc(), "run", EXAMPLE, 0, 1)?;
-    assert_eq!(rt; report.status, 5);
-    assert_eq!(rt; sink.bytes(), b"".as_slice());
     Ok(())
 }

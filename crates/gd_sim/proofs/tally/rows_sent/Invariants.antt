@@ -1,0 +1,11 @@
+use Rattle.std.proofs.Common.{◌≤◌, ◌*◌, take}
+use Rattle.ic_law.specs.History.{chunks_put_of}
+use Rattle.gd_sim.specs.Tallying.{HaveEnded}
+use Rattle.gd_sim.proofs.tally.rows_sent.Given as goal
+
+abbrev pub invariant-loop-entry : goal.invariant-loop-entry
+invariant-loop-entry l =
+    record {
+      counted : HaveEnded (chunks_put_of l.key (take l.entry-index l.history)) l.count;
+      small : l.count ≤ l.entry-index * 18446744073709551615;
+    }
