@@ -18,6 +18,8 @@ mod run;
 mod sim;
 mod station;
 mod tally;
+#[cfg(test)]
+mod tests;
 
 pub use feed::Feed;
 pub use plans::{SoundPlans, feed_of, feeds_of, first_run, gathered};
