@@ -139,14 +139,12 @@ fn texts(
         lines.push_str(row.as_str())?;
         lines.push_str("\n")?;
     }
-    let text = varied(
-        alloc,
-        &[
-            ("\"segments\":2", "\"segments\":1,\"settings\":{SETTINGS}"),
-            ("SETTINGS", settings),
-            ("[\"a\",\"int\"]", "[\"a\",\"text\"]"),
-            ("[10],[11],[12],[13]", all.as_str()),
-        ],
+    let mut text = String::from_str(alloc, "{\"session\":7,\"segments\":1,\"settings\":{")?;
+    text.push_str(settings)?;
+    text.push_str("},\"tables\":[{\"name\":\"t\",\"columns\":[[\"a\",\"text\"]],\"rows\":[")?;
+    text.push_str(all.as_str())?;
+    text.push_str(
+        "]}],\"queries\":[{\"op\":\"gather\",\"child\":{\"op\":\"scan\",\"table\":\"t\"}}]}",
     )?;
     Ok((text, lines))
 }
