@@ -64,9 +64,17 @@ query_formed end packet seq names room number =
       most = omega (arith, length-written head, room);
     }
 
+-- the datagram is a packet of rows, no longer than packets may be
+pub record IsRowsOf (end : ConnEnd) (packet : ℕ) (d : Datagram) : Type 0 where
+  pub row : RowPacket
+  pub is : row_datagram end row ≡ d
+  pub least : 4 ≤ length row.payload
+  pub most : length row.payload + 64 ≤ packet
+  pub number : row.seq < 2 ^ 32
+
 -- what is on its way
-pub flight_formed : (s : Sending) (held : List Item) (h : List Entry) → Stands s held h → s.stopped ≡ false → (f : Flight) → Contains s.flights f → IsOutgoingOf s.end s.settings.packet f.datagram
-flight_formed s held h stands on f at =
+pub flight_is : (s : Sending) (held : List Item) (h : List Entry) → Stands s held h → s.stopped ≡ false → (f : Flight) → Contains s.flights f → IsRowsOf s.end s.settings.packet f.datagram
+flight_is s held h stands on f at =
     let c = s.end.key in
     let packets = sealed_of c s.settings h in
     let m = (stands.reflects.runs on).mirrors in
@@ -76,14 +84,19 @@ flight_formed s held h stands on f at =
     let number : f.seq < 2 ^ 32 = omega (arith, range.1, m.up, within, m.sealed, m.small) in
     by (slice_get packets (f.seq - 1)) refl number t.1.same
   where
-    by : (o : Option Sealed) → slice_get (sealed_of s.end.key s.settings h) (f.seq - 1) ≡ o → f.seq < 2 ^ 32 → map (row_datagram s.end) (row_at o f.seq) ≡ f.datagram ∷ [] → IsOutgoingOf s.end s.settings.packet f.datagram
+    by : (o : Option Sealed) → slice_get (sealed_of s.end.key s.settings h) (f.seq - 1) ≡ o → f.seq < 2 ^ 32 → map (row_datagram s.end) (row_at o f.seq) ≡ f.datagram ∷ [] → IsRowsOf s.end s.settings.packet f.datagram
     by None e number same = absurd (let bad : [] ≡ f.datagram ∷ [] = same in cc)
     by (Some x) e number same =
         let p : RowPacket = record { seq = f.seq; payload = x.payload; last = x.last } in
         let both : row_datagram s.end p ∷ [] ≡ f.datagram ∷ [] = same in
         let is : row_datagram s.end p ≡ f.datagram = cc in
         let size = size_at s.settings.packet (sealed_of s.end.key s.settings h) (f.seq - 1) x (stands.reflects.runs on).mirrors.sizes e in
-        subst (IsOutgoingOf s.end s.settings.packet) is (row_formed s.end s.settings.packet p stands.reflects.names stands.reflects.checked.greatest_packet size.0 size.1 number)
+        record { row = p; is = is; least = size.0; most = size.1; number = number }
+
+pub flight_formed : (s : Sending) (held : List Item) (h : List Entry) → Stands s held h → s.stopped ≡ false → (f : Flight) → Contains s.flights f → IsOutgoingOf s.end s.settings.packet f.datagram
+flight_formed s held h stands on f at =
+    let r = flight_is s held h stands on f at in
+    subst (IsOutgoingOf s.end s.settings.packet) r.is (row_formed s.end s.settings.packet r.row stands.reflects.names stands.reflects.checked.greatest_packet r.least r.most r.number)
 
 -- what goes out again is on its way
 pub copies_in : (fs : List Flight) (numbers : List ℕ) (d : Datagram) → Contains (copies fs numbers) d → (f : Flight) × Contains fs f × (f.datagram ≡ d)

@@ -1,5 +1,5 @@
 -- A history of ticks alone, for which a connection stands as it begins.
-use Rattle.std.proofs.Common.{◌≡◌, ℕ, zero, suc, ◌≤◌, List, [], ◌∷◌, ◌++◌, false, Ok, refl, ap, sym, ◌∙◌, subst, arith}
+use Rattle.std.proofs.Common.{◌≡◌, ℕ, zero, suc, ◌≤◌, List, [], ◌∷◌, ◌++◌, length, false, Ok, refl, ap, sym, ◌∙◌, subst, arith, append-nil}
 use Rattle.std.specs.List.{Contains}
 use Rattle.ic_base.specs.declared.keys.ConnKey.{ConnKey}
 use Rattle.ic_base.specs.declared.keys.ConnEnd.{ConnEnd}
@@ -9,15 +9,17 @@ use Rattle.ic_expire.specs.Queue.{Queue}
 use Rattle.ic_law.specs.declared.history.HubAsk.TheVariants.{Begin, Tick}
 use Rattle.ic_law.specs.declared.history.HubReply.TheVariants.{Ticked}
 use Rattle.ic_law.specs.declared.history.Entry.{Entry}
-use Rattle.ic_law.specs.History.{finished_of}
+use Rattle.ic_law.specs.History.{rows_emitted_of, chunks_put_of, finished_of}
 use Rattle.ic_law.specs.Emission.{last_tick, ticks_of}
 use Rattle.ic_law.proofs.Lists.{Contains-none}
-use Rattle.ic_law.proofs.Readings.{fold_every}
+use Rattle.ic_law.proofs.Readings.{fold_every, rows_emitted_of-push}
 use Rattle.ic_sender.specs.Sending.{Sending, begun}
 use Rattle.ic_sender.specs.Entries.{IsNothingOf, IsBefore}
 use Rattle.ic_sender.specs.Standing.{Stands as StandsFor, IsUntouched, HoldsNone}
-use Rattle.ic_sender.proofs.Passing.{finished_stays}
-use Rattle.ic_outgoing.specs.Standing.{StandsFirst, IsSound}
+use Rattle.ic_sender.proofs.Passing.{chunks_stay, finished_stays}
+use Rattle.ic_tally.specs.Counts.{HasCounted}
+use Rattle.ic_tally.proofs.Ended.{counted_none}
+use Rattle.ic_outgoing.specs.Standing.{HasResent, StandsFirst, IsSound}
 use Rattle.ic_outgoing.proofs.Steps.{state}
 
 -- a tick at which nothing is emitted
@@ -67,15 +69,27 @@ unfinished : (end : ConnEnd) (h : List Entry) → IsUntouched end h → finished
 unfinished end h none =
     fold_every (IsBefore end) (λ x. finished_of end.key x ≡ false) h refl (λ before e after split point old. finished_stays end.key before e point.nothing.finishes_none ∙ old) none
 
+-- nor was anything of it put, or emitted
+unput : (end : ConnEnd) (h : List Entry) → IsUntouched end h → chunks_put_of end.key h ≡ []
+unput end h none =
+    fold_every (IsBefore end) (λ x. chunks_put_of end.key x ≡ []) h refl (λ before e after split point old. chunks_stay end.key before e point.nothing.puts_none ∙ old) none
+
+unsent : (end : ConnEnd) (h : List Entry) → IsUntouched end h → rows_emitted_of end.key h ≡ []
+unsent end h none =
+    fold_every (IsBefore end) (λ x. rows_emitted_of end.key x ≡ []) h refl
+    (λ before e after split point old. rows_emitted_of-push end.key before e ∙ ap (λ l. rows_emitted_of end.key before ++ l) point.nothing.rows ∙ append-nil (rows_emitted_of end.key before) ∙ old) none
+
 pub new_stands : (end : ConnEnd) (settings : Settings) (now : ℕ) (s : Sending) (held : List Item) → s ≡ begun end 0 settings → held ≡ [] → ((left : List Item) (h : List Entry) → HoldsNone 0 left → IsUntouched end h → StandsFor s left h)
-    → StandsFirst end now (state s held now)
+    → StandsFirst end now (state s held now 0)
 new_stands end settings now s held same none stands h clock away = record {
   clock = clock;
   finished = ap (λ (x : Sending). finished_of x.end.key h) same ∙ unfinished end h away ∙ sym (ap (λ (x : Sending). x.finished) same);
   sends = stands held h (λ y at mine. Contains-none y (subst (λ l. Contains l y) none at)) away;
+  rows = subst (λ (x : Sending). HasCounted (chunks_put_of x.end.key h) 0) (sym same) (subst (λ l. HasCounted l 0) (sym (unput end h away)) counted_none);
+  resent = subst (λ (x : Sending). HasResent x.end.key h x.sent x.resent) (sym same) (record { again = 0; emitted = ap length (unsent end h away); told = omega arith });
 }
 
-pub new_sound : (end : ConnEnd) (settings : Settings) (now : ℕ) (s : Sending) (q : Queue) → s ≡ begun end 0 settings → q ≡ record { held = []; asked = now; room = settings.send_depth } → now ≤ last_tick → StandsFirst end now (state s q.held now) → IsSound s q now
+pub new_sound : (end : ConnEnd) (settings : Settings) (now : ℕ) (s : Sending) (q : Queue) → s ≡ begun end 0 settings → q ≡ record { held = []; asked = now; room = settings.send_depth } → now ≤ last_tick → StandsFirst end now (state s q.held now 0) → IsSound s q now 0
 new_sound end settings now s q same queue last stands = record {
   conn = ap (λ (x : Sending). x.conn) same;
   asked = ap (λ (x : Queue). x.asked) queue;

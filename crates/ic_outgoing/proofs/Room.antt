@@ -31,8 +31,8 @@ pub record IsFlying (s : Sending) (now : ℕ) (y : Item) : Type 0 where
   pub later : now < y.due
   pub near : y.due ≤ now + 64
 
-pub flying : (s : Sending) (q : Queue) (now : ℕ) → IsSound s q now → s.stopped ≡ false → (y : Item) → Contains q.held y → IsFlying s now y
-flying s q now sound on y at =
+pub flying : (s : Sending) (q : Queue) (now rows : ℕ) → IsSound s q now rows → s.stopped ≡ false → (y : Item) → Contains q.held y → IsFlying s now y
+flying s q now rows sound on y at =
     let h = sound.history in
     let c = s.end.key in
     let st = sound.stands in
@@ -90,35 +90,35 @@ few a b conn held once are =
 
 -- ---- what the calls of a sender want
 
-pub is_now : (s : Sending) (q : Queue) (now : ℕ) → IsSound s q now → IsNow now q
-is_now s q now sound = let asked = sound.asked in record { from = omega (arith, asked); upto = omega (arith, asked); last = sound.last }
+pub is_now : (s : Sending) (q : Queue) (now rows : ℕ) → IsSound s q now rows → IsNow now q
+is_now s q now rows sound = let asked = sound.asked in record { from = omega (arith, asked); upto = omega (arith, asked); last = sound.last }
 
-pub waits_alone : (s : Sending) (q : Queue) (now : ℕ) → IsSound s q now → s.stopped ≡ false → WaitsAlone s q
-waits_alone s q now sound on seq at = (flying s q now sound on (record { due = at.0; conn = s.conn; seq = seq }) at.1).upto
+pub waits_alone : (s : Sending) (q : Queue) (now rows : ℕ) → IsSound s q now rows → s.stopped ≡ false → WaitsAlone s q
+waits_alone s q now rows sound on seq at = (flying s q now rows sound on (record { due = at.0; conn = s.conn; seq = seq }) at.1).upto
 
 -- what is kept is what isn't acknowledged
-kept_are : (s : Sending) (q : Queue) (now : ℕ) → IsSound s q now → s.stopped ≡ false → (length s.kept ≡ s.sealed - s.acked) × (s.acked ≤ s.sent) × (s.sent ≤ s.sealed)
-kept_are s q now sound on =
+kept_are : (s : Sending) (q : Queue) (now rows : ℕ) → IsSound s q now rows → s.stopped ≡ false → (length s.kept ≡ s.sealed - s.acked) × (s.acked ≤ s.sent) × (s.sent ≤ s.sealed)
+kept_are s q now rows sound on =
     let reflects = sound.stands.sends.reflects in
     let m = (reflects.runs on).mirrors in
     let within = reflects.sent.within in
     (sym (length-map number_of s.kept) ∙ ap length m.numbers ∙ length-behind s.acked (s.sealed - s.acked), m.up, omega (arith, within, m.sealed))
 
-waiting_few : (s : Sending) (q : Queue) (now : ℕ) → IsSound s q now → IsQueue q → s.stopped ≡ false → length q.held ≤ s.sent - s.acked
-waiting_few s q now sound queue on =
-    few s.acked s.sent s.conn q.held queue.once (λ y at. let w = flying s q now sound on y at in (w.from, w.upto, sound.own y at))
+waiting_few : (s : Sending) (q : Queue) (now rows : ℕ) → IsSound s q now rows → IsQueue q → s.stopped ≡ false → length q.held ≤ s.sent - s.acked
+waiting_few s q now rows sound queue on =
+    few s.acked s.sent s.conn q.held queue.once (λ y at. let w = flying s q now rows sound on y at in (w.from, w.upto, sound.own y at))
 
-pub leaves_room : (s : Sending) (q : Queue) (now : ℕ) → IsSound s q now → IsQueue q → length s.kept ≤ s.settings.send_depth → s.stopped ≡ false → LeavesRoom (unsent s) q
-leaves_room s q now sound queue most on =
-    let w = kept_are s q now sound on in
-    let waiting = waiting_few s q now sound queue on in
+pub leaves_room : (s : Sending) (q : Queue) (now rows : ℕ) → IsSound s q now rows → IsQueue q → length s.kept ≤ s.settings.send_depth → s.stopped ≡ false → LeavesRoom (unsent s) q
+leaves_room s q now rows sound queue most on =
+    let w = kept_are s q now rows sound on in
+    let waiting = waiting_few s q now rows sound queue on in
     let room = sound.room in
     omega (arith, w.0, w.1, w.2, waiting, room, most)
 
-pub leaves_more_room : (s : Sending) (q : Queue) (now : ℕ) → IsSound s q now → IsQueue q → length s.kept ≤ s.settings.send_depth → s.stopped ≡ false → LeavesRoom (unsealed s) q
-leaves_more_room s q now sound queue most on =
-    let w = kept_are s q now sound on in
-    let waiting = waiting_few s q now sound queue on in
+pub leaves_more_room : (s : Sending) (q : Queue) (now rows : ℕ) → IsSound s q now rows → IsQueue q → length s.kept ≤ s.settings.send_depth → s.stopped ≡ false → LeavesRoom (unsealed s) q
+leaves_more_room s q now rows sound queue most on =
+    let w = kept_are s q now rows sound on in
+    let waiting = waiting_few s q now rows sound queue on in
     let room = sound.room in
     elim (cases_Bool (nat_lt (length s.kept) s.settings.send_depth)) [
       | inl less ↦ subst (λ b. length q.held + ((s.sealed - s.sent) + cond b 1 0) ≤ q.room) (sym less) (let lt = lt_of (length s.kept) s.settings.send_depth less in omega (arith, w.0, w.1, w.2, waiting, room, lt))

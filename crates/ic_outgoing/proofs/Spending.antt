@@ -105,29 +105,29 @@ module _ (s : Sending) (held : List Item) (h : List Entry) (stands : StandsFor s
             none ∙ sym (ap (λ n. n == retries) tries ∙ sym (ap (λ b. b && (f.0.tries == retries)) here) ∙ fails)
       ]
 
-numbers_of : (s : Sending) (q : Queue) (now : ℕ) (h : List Entry) → IsSound s q now → IsQueue q → StandsFor s q.held h → s.stopped ≡ false → numbers_due (state s q.held now) ≡ due_numbers (next_tick now) (timing_of s.end.key s.settings h).timers
-numbers_of s q now h sound queue stands on =
+numbers_of : (s : Sending) (q : Queue) (now rows : ℕ) (h : List Entry) → IsSound s q now rows → IsQueue q → StandsFor s q.held h → s.stopped ≡ false → numbers_due (state s q.held now rows) ≡ due_numbers (next_tick now) (timing_of s.end.key s.settings h).timers
+numbers_of s q now rows h sound queue stands on =
     let R = Waits s.end (sealed_of s.end.key s.settings h) s.conn q.held (clock_of h) in
     let timers = (timing_of s.end.key s.settings h).timers in
     let m = mirrors s q.held h stands on in
     let inc = seqs_increase s.acked (s.sent - s.acked) timers s.flights (alike_seqs R s.flights timers (λ f x w. w.seq) m.timers) m.flights in
-    numbers_are s.conn (next_tick now) s.acked q.held timers (numbers_due (state s q.held now)) inc (due_increase s q now sound queue) (λ n at. (due_both s q now sound n).0 at) (λ n at. (due_both s q now sound n).1 at)
+    numbers_are s.conn (next_tick now) s.acked q.held timers (numbers_due (state s q.held now rows)) inc (due_increase s q now rows sound queue) (λ n at. (due_both s q now rows sound n).0 at) (λ n at. (due_both s q now rows sound n).1 at)
     (λ x at. (alike_timer R s.flights timers x m.timers at).2.waits) m.alone
 
 -- ---- packets
 
-spent_are : (s : Sending) (q : Queue) (now : ℕ) (h : List Entry) → IsSound s q now → IsQueue q → Stands (state s q.held now) h → Spends (first_spent (state s q.held now)) (spent_timers s.settings (next_clock h) (timing_of s.end.key s.settings h))
-spent_are s q now h sound queue stands =
+spent_are : (s : Sending) (q : Queue) (now rows : ℕ) (h : List Entry) → IsSound s q now rows → IsQueue q → Stands (state s q.held now rows) h → Spends (first_spent (state s q.held now rows)) (spent_timers s.settings (next_clock h) (timing_of s.end.key s.settings h))
+spent_are s q now rows h sound queue stands =
     let t = timing_of s.end.key s.settings h in
     let next = next_tick now in
-    let o = state s q.held now in
+    let o = state s q.held now rows in
     subst (λ n. Spends (first_spent o) (spent_timers s.settings n t)) (sym (next_is h now stands.clock)) (elim (cases_Bool s.stopped) [
       | inl off ↦
-          let none : first_spent o ≡ None = ap (λ l. first_spent (state s l now)) (sound.still off) in
+          let none : first_spent o ≡ None = ap (λ l. first_spent (state s l now rows)) (sound.still off) in
           let empty : spent_timers s.settings next t ≡ [] = ap (filter (has_no_try s.settings next)) (stands.sends.reflects.still off).timers in
           subst (λ x. Spends x (spent_timers s.settings next t)) (sym none) empty
       | inr on ↦
-          subst (λ l. Spends (find (has_none_left s) l) (spent_timers s.settings next t)) (sym (numbers_of s q now h sound queue stands.sends on))
+          subst (λ l. Spends (find (has_none_left s) l) (spent_timers s.settings next t)) (sym (numbers_of s q now rows h sound queue stands.sends on))
           (spends (has_none_left s) next s.settings.retries t.timers (left_is s q.held h stands.sends on))
     ])
 
@@ -149,29 +149,29 @@ gives_packet s h n t more are seq = record {
       ∙ ap (map (λ (x : Timer). (s.end.key, x.seq))) are ∙ ap (λ (k : ℕ). (s.end.key, k) ∷ map (λ (x : Timer). (s.end.key, x.seq)) more) seq;
 }
 
-pub looks_tell : (s : Sending) (q : Queue) (now : ℕ) (result : Result Due SendNo) → IsSound s q now → IsQueue q → Looks (state s q.held now) result → Tells (state s q.held now) KeepsPackets GivesPacketUp result
-looks_tell s q now result sound queue (Looks.Again none is) =
-    subst (λ (r : Result Due SendNo). Tells (state s q.held now) KeepsPackets GivesPacketUp r) (sym is) (λ h stands.
-    keeps_packets s h (subst (λ x. Spends x (spent_timers s.settings (next_clock h) (timing_of s.end.key s.settings h))) none (spent_are s q now h sound queue stands)))
-looks_tell s q now result sound queue (Looks.GivenUp n some_ is) =
-    subst (λ (r : Result Due SendNo). Tells (state s q.held now) KeepsPackets GivesPacketUp r) (sym is) (
+pub looks_tell : (s : Sending) (q : Queue) (now rows : ℕ) (result : Result Due SendNo) → IsSound s q now rows → IsQueue q → Looks (state s q.held now rows) result → Tells (state s q.held now rows) KeepsPackets GivesPacketUp result
+looks_tell s q now rows result sound queue (Looks.Again none is) =
+    subst (λ (r : Result Due SendNo). Tells (state s q.held now rows) KeepsPackets GivesPacketUp r) (sym is) (λ h stands.
+    keeps_packets s h (subst (λ x. Spends x (spent_timers s.settings (next_clock h) (timing_of s.end.key s.settings h))) none (spent_are s q now rows h sound queue stands)))
+looks_tell s q now rows result sound queue (Looks.GivenUp n some_ is) =
+    subst (λ (r : Result Due SendNo). Tells (state s q.held now rows) KeepsPackets GivesPacketUp r) (sym is) (
       refl,
       refl,
       λ h stands.
-          let w = subst (λ x. Spends x (spent_timers s.settings (next_clock h) (timing_of s.end.key s.settings h))) some_ (spent_are s q now h sound queue stands) in gives_packet s h n w.0 w.1 w.2 w.3,
+          let w = subst (λ x. Spends x (spent_timers s.settings (next_clock h) (timing_of s.end.key s.settings h))) some_ (spent_are s q now rows h sound queue stands) in gives_packet s h n w.0 w.1 w.2 w.3,
     )
-looks_tell s q now result sound queue (Looks.LooksWithout is) = subst (λ (r : Result Due SendNo). Tells (state s q.held now) KeepsPackets GivesPacketUp r) (sym is) tt
+looks_tell s q now rows result sound queue (Looks.LooksWithout is) = subst (λ (r : Result Due SendNo). Tells (state s q.held now rows) KeepsPackets GivesPacketUp r) (sym is) tt
 
-pub looks_formed : (s : Sending) (q : Queue) (now : ℕ) (result : Result Due SendNo) → IsSound s q now → Looks (state s q.held now) result → IfOk result (λ (d : Due). AreOutgoing s d.datagrams)
-looks_formed s q now result sound (Looks.Again none is) =
-    subst (λ (r : Result Due SendNo). IfOk r (λ (d : Due). AreOutgoing s d.datagrams)) (sym is) (all_copies_formed s q.held sound.history (numbers_due (state s q.held now)) sound.stands.sends)
-looks_formed s q now result sound (Looks.GivenUp n some_ is) = subst (λ (r : Result Due SendNo). IfOk r (λ (d : Due). AreOutgoing s d.datagrams)) (sym is) tt
-looks_formed s q now result sound (Looks.LooksWithout is) = subst (λ (r : Result Due SendNo). IfOk r (λ (d : Due). AreOutgoing s d.datagrams)) (sym is) tt
+pub looks_formed : (s : Sending) (q : Queue) (now rows : ℕ) (result : Result Due SendNo) → IsSound s q now rows → Looks (state s q.held now rows) result → IfOk result (λ (d : Due). AreOutgoing s d.datagrams)
+looks_formed s q now rows result sound (Looks.Again none is) =
+    subst (λ (r : Result Due SendNo). IfOk r (λ (d : Due). AreOutgoing s d.datagrams)) (sym is) (all_copies_formed s q.held sound.history (numbers_due (state s q.held now rows)) sound.stands.sends)
+looks_formed s q now rows result sound (Looks.GivenUp n some_ is) = subst (λ (r : Result Due SendNo). IfOk r (λ (d : Due). AreOutgoing s d.datagrams)) (sym is) tt
+looks_formed s q now rows result sound (Looks.LooksWithout is) = subst (λ (r : Result Due SendNo). IfOk r (λ (d : Due). AreOutgoing s d.datagrams)) (sym is) tt
 
-pub looks_increase : (s : Sending) (q : Queue) (now : ℕ) (result : Result Due SendNo) → IsSound s q now → IsQueue q → Looks (state s q.held now) result → IfOk result (λ (d : Due). IsIncreasingFrom 1 d.numbers)
-looks_increase s q now result sound queue (Looks.Again none is) = subst (λ (r : Result Due SendNo). IfOk r (λ (d : Due). IsIncreasingFrom 1 d.numbers)) (sym is) (due_increase s q now sound queue)
-looks_increase s q now result sound queue (Looks.GivenUp n some_ is) = subst (λ (r : Result Due SendNo). IfOk r (λ (d : Due). IsIncreasingFrom 1 d.numbers)) (sym is) tt
-looks_increase s q now result sound queue (Looks.LooksWithout is) = subst (λ (r : Result Due SendNo). IfOk r (λ (d : Due). IsIncreasingFrom 1 d.numbers)) (sym is) tt
+pub looks_increase : (s : Sending) (q : Queue) (now rows : ℕ) (result : Result Due SendNo) → IsSound s q now rows → IsQueue q → Looks (state s q.held now rows) result → IfOk result (λ (d : Due). IsIncreasingFrom 1 d.numbers)
+looks_increase s q now rows result sound queue (Looks.Again none is) = subst (λ (r : Result Due SendNo). IfOk r (λ (d : Due). IsIncreasingFrom 1 d.numbers)) (sym is) (due_increase s q now rows sound queue)
+looks_increase s q now rows result sound queue (Looks.GivenUp n some_ is) = subst (λ (r : Result Due SendNo). IfOk r (λ (d : Due). IsIncreasingFrom 1 d.numbers)) (sym is) tt
+looks_increase s q now rows result sound queue (Looks.LooksWithout is) = subst (λ (r : Result Due SendNo). IfOk r (λ (d : Due). IsIncreasingFrom 1 d.numbers)) (sym is) tt
 
 -- ---- the status query
 
@@ -185,34 +185,34 @@ query_same : (settings : Settings) (now : ℕ) (o : Option Asked) → spent_quer
 query_same settings now None = refl
 query_same settings now (Some a) = refl
 
-query_is : (s : Sending) (held : List Item) (now : ℕ) (h : List Entry) → Stands (state s held now) h → spent_query s.settings (next_clock h) (timing_of s.end.key s.settings h).asked ≡ is_query_spent (state s held now)
-query_is s held now h stands =
+query_is : (s : Sending) (held : List Item) (now rows : ℕ) (h : List Entry) → Stands (state s held now rows) h → spent_query s.settings (next_clock h) (timing_of s.end.key s.settings h).asked ≡ is_query_spent (state s held now rows)
+query_is s held now rows h stands =
     ap (spent_query s.settings (next_clock h)) (asked_is s held h stands.sends) ∙ ap (λ n. spent_query s.settings n s.asked) (next_is h now stands.clock) ∙ query_same s.settings (next_tick now) s.asked
 
 and_none : (b : Bool) → (b && false) ≡ false
 and_none true = refl
 and_none false = refl
 
-pub queries_tell : (s : Sending) (held : List Item) (now : ℕ) (result : Result (List Datagram) SendNo) → Queries s (next_tick now) result → Tells (state s held now) KeepsQuery GivesQueryUp result
-queries_tell s held now result (Queries.Asks answered is) =
-    subst (λ (r : Result (List Datagram) SendNo). Tells (state s held now) KeepsQuery GivesQueryUp r) (sym is) (λ h stands.
-    let none = query_is s held now h stands ∙ answered in
+pub queries_tell : (s : Sending) (held : List Item) (now rows : ℕ) (result : Result (List Datagram) SendNo) → Queries s (next_tick now) result → Tells (state s held now rows) KeepsQuery GivesQueryUp result
+queries_tell s held now rows result (Queries.Asks answered is) =
+    subst (λ (r : Result (List Datagram) SendNo). Tells (state s held now rows) KeepsQuery GivesQueryUp r) (sym is) (λ h stands.
+    let none = query_is s held now rows h stands ∙ answered in
     record {
       asked = none;
       query = ap (λ b. cond (s.end.sending && b) ((s.end.key, sent_upto s.end.key h) ∷ []) []) none ∙ ap (λ b. cond b ((s.end.key, sent_upto s.end.key h) ∷ []) []) (and_none s.end.sending);
     })
-queries_tell s held now result (Queries.Unanswered unanswered is) =
-    subst (λ (r : Result (List Datagram) SendNo). Tells (state s held now) KeepsQuery GivesQueryUp r) (sym is) (
+queries_tell s held now rows result (Queries.Unanswered unanswered is) =
+    subst (λ (r : Result (List Datagram) SendNo). Tells (state s held now rows) KeepsQuery GivesQueryUp r) (sym is) (
       refl,
       refl,
       λ h stands sends.
           ap (λ b. cond (b && spent_query s.settings (next_clock h) (timing_of s.end.key s.settings h).asked) ((s.end.key, sent_upto s.end.key h) ∷ []) []) sends
-          ∙ ap (λ b. cond b ((s.end.key, sent_upto s.end.key h) ∷ []) []) (query_is s held now h stands ∙ unanswered) ∙ ap (λ (k : ℕ). (s.end.key, k) ∷ []) (sent_is s held h stands.sends.reflects),
+          ∙ ap (λ b. cond b ((s.end.key, sent_upto s.end.key h) ∷ []) []) (query_is s held now rows h stands ∙ unanswered) ∙ ap (λ (k : ℕ). (s.end.key, k) ∷ []) (sent_is s held h stands.sends.reflects),
     )
-queries_tell s held now result (Queries.AsksWithout is) = subst (λ (r : Result (List Datagram) SendNo). Tells (state s held now) KeepsQuery GivesQueryUp r) (sym is) tt
+queries_tell s held now rows result (Queries.AsksWithout is) = subst (λ (r : Result (List Datagram) SendNo). Tells (state s held now rows) KeepsQuery GivesQueryUp r) (sym is) tt
 
-pub queries_formed : (s : Sending) (q : Queue) (now next : ℕ) (result : Result (List Datagram) SendNo) → IsSound s q now → Queries s next result → IfOk result (AreOutgoing s)
-queries_formed s q now next result sound (Queries.Asks answered is) =
+pub queries_formed : (s : Sending) (q : Queue) (now rows next : ℕ) (result : Result (List Datagram) SendNo) → IsSound s q now rows → Queries s next result → IfOk result (AreOutgoing s)
+queries_formed s q now rows next result sound (Queries.Asks answered is) =
     subst (λ (r : Result (List Datagram) SendNo). IfOk r (AreOutgoing s)) (sym is) (all_queries_formed s q.held sound.history next sound.stands.sends)
-queries_formed s q now next result sound (Queries.Unanswered unanswered is) = subst (λ (r : Result (List Datagram) SendNo). IfOk r (AreOutgoing s)) (sym is) tt
-queries_formed s q now next result sound (Queries.AsksWithout is) = subst (λ (r : Result (List Datagram) SendNo). IfOk r (AreOutgoing s)) (sym is) tt
+queries_formed s q now rows next result sound (Queries.Unanswered unanswered is) = subst (λ (r : Result (List Datagram) SendNo). IfOk r (AreOutgoing s)) (sym is) tt
+queries_formed s q now rows next result sound (Queries.AsksWithout is) = subst (λ (r : Result (List Datagram) SendNo). IfOk r (AreOutgoing s)) (sym is) tt

@@ -7,7 +7,7 @@ use Rattle.ic_expire.specs.declared.item.Item.{Item}
 use Rattle.ic_expire.specs.Queue.{Queue}
 use Rattle.ic_law.specs.declared.history.Entry.{Entry}
 use Rattle.ic_law.specs.Packets.{RowPacket}
-use Rattle.ic_law.specs.History.{finishes, finished_of}
+use Rattle.ic_law.specs.History.{chunks_put_of, finishes, finished_of}
 use Rattle.ic_law.specs.Emission.{ticks_by, wait_in}
 use Rattle.ic_law.proofs.Readings.{finished_of-push}
 use Rattle.ic_sender.specs.Sending.{Sending, emitting, waits_next, rows_next}
@@ -15,10 +15,12 @@ use Rattle.ic_sender.specs.Standing.{Stands as StandsFor}
 use Rattle.ic_sender.proofs.Emitting.{waiting_is}
 use Rattle.ic_sender.proofs.Passing.{clock_stays}
 use Rattle.ic_outgoing.specs.Outgoing.{OutgoingState, queue_of}
-use Rattle.ic_outgoing.specs.Standing.{Stands, IsSound}
+use Rattle.ic_tally.specs.Counts.{HasCounted}
+use Rattle.ic_outgoing.specs.Standing.{Stands, HasResent, IsSound}
+use Rattle.ic_outgoing.proofs.Counting.{EndsRows, SendsRows, rows_after, resent_after}
 
-abbrev pub state : Sending → List Item → ℕ → OutgoingState
-state s held now = record { sending = s; held = held; now = now }
+abbrev pub state : Sending → List Item → (now rows : ℕ) → OutgoingState
+state s held now rows = record { sending = s; held = held; now = now; rows = rows }
 
 -- one connection, and a queue of its own
 pub record Leaves (s : Sending) (q : Queue) (after : Sending) (left : Queue) : Type 0 where
@@ -30,8 +32,8 @@ pub record Leaves (s : Sending) (q : Queue) (after : Sending) (left : Queue) : T
   pub own : (y : Item) → Contains left.held y → y.conn ≡ s.conn
   pub still : after.stopped ≡ true → left.held ≡ []
 
-pub leaves_same : (s : Sending) (q : Queue) (now : ℕ) (after : Sending) (left : Queue) → IsSound s q now → after ≡ s → left ≡ q → Leaves s q after left
-leaves_same s q now after left sound one two =
+pub leaves_same : (s : Sending) (q : Queue) (now rows : ℕ) (after : Sending) (left : Queue) → IsSound s q now rows → after ≡ s → left ≡ q → Leaves s q after left
+leaves_same s q now rows after left sound one two =
     subst (λ (x : Sending). Leaves s q x left) (sym one)
     (subst (λ (x : Queue). Leaves s q s x) (sym two) (record { end = refl; conn = refl; settings = refl; asked = refl; room = refl; own = sound.own; still = sound.still }))
 
@@ -53,8 +55,8 @@ leaves_emitting s m q held now after left end conn settings on own one two =
       still = λ off. absurd (let bad : true ≡ false = sym off ∙ on in cc);
     }))
 
-pub sound_after : (s : Sending) (q : Queue) (now : ℕ) (after : Sending) (left : Queue) (h : List Entry) → IsSound s q now → Leaves s q after left → Stands (state after left.held now) h → IsSound after left now
-sound_after s q now after left h sound leaves stands = record {
+pub sound_after : (s : Sending) (q : Queue) (now rows more : ℕ) (after : Sending) (left : Queue) (h : List Entry) → IsSound s q now rows → Leaves s q after left → Stands (state after left.held now more) h → IsSound after left now more
+sound_after s q now rows more after left h sound leaves stands = record {
   conn = leaves.conn ∙ sound.conn;
   asked = leaves.asked ∙ sound.asked;
   last = sound.last;
@@ -66,12 +68,14 @@ sound_after s q now after left h sound leaves stands = record {
 }
 
 -- an entry that isn't a tick leaves the clock
-pub stands_by : (s after : Sending) (held left : List Item) (now : ℕ) (h : List Entry) (e : Entry) → ticks_by e.reply ≡ 0 → after.end ≡ s.end → (s.finished || finishes s.end.key e) ≡ after.finished → StandsFor after left (h ++ e ∷ [])
-    → Stands (state s held now) h → Stands (state after left now) (h ++ e ∷ [])
-stands_by s after held left now h e still end finished sends old = record {
+pub stands_by : (s after : Sending) (held left : List Item) (now rows more : ℕ) (h : List Entry) (e : Entry) → ticks_by e.reply ≡ 0 → after.end ≡ s.end → (s.finished || finishes s.end.key e) ≡ after.finished → StandsFor after left (h ++ e ∷ [])
+    → EndsRows s.end.key rows more e → SendsRows s after e → Stands (state s held now rows) h → Stands (state after left now more) (h ++ e ∷ [])
+stands_by s after held left now rows more h e still end finished sends ends rows_out old = record {
   clock = clock_stays h e still ∙ old.clock;
   finished = ap (λ (x : ConnEnd). finished_of x.key (h ++ e ∷ [])) end ∙ finished_of-push s.end.key h e ∙ ap (λ b. b || finishes s.end.key e) old.finished ∙ finished;
   sends = sends;
+  rows = subst (λ (x : ConnEnd). HasCounted (chunks_put_of x.key (h ++ e ∷ [])) more) (sym end) (rows_after s.end.key rows more h e ends old.rows);
+  resent = subst (λ (x : ConnEnd). HasResent x.key (h ++ e ∷ []) after.sent after.resent) (sym end) (resent_after s after h e rows_out old.resent);
 }
 
 pub or_none : (b x : Bool) → x ≡ false → (b || x) ≡ b
@@ -79,5 +83,5 @@ or_none true x h = refl
 or_none false x h = h
 
 -- the queue is what is seen of it
-pub queue_is : (s : Sending) (q : Queue) (now : ℕ) → IsSound s q now → q ≡ queue_of (state s q.held now)
-queue_is s q now sound = ap (λ (n : ℕ). record { held = q.held; asked = n; room = q.room }) sound.asked ∙ ap (λ (n : ℕ). record { held = q.held; asked = now; room = n }) sound.room
+pub queue_is : (s : Sending) (q : Queue) (now rows : ℕ) → IsSound s q now rows → q ≡ queue_of (state s q.held now rows)
+queue_is s q now rows sound = ap (λ (n : ℕ). record { held = q.held; asked = n; room = q.room }) sound.asked ∙ ap (λ (n : ℕ). record { held = q.held; asked = now; room = n }) sound.room

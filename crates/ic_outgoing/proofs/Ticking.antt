@@ -1,5 +1,5 @@
 -- What a tick makes of a connection and its queue.
-use Rattle.std.proofs.Common.{◌≡◌, ℕ, ◌+◌, ◌<◌, ◌≤◌, List, [], ◌∷◌, ◌++◌, length, map, Bool, true, false, not, Ok, refl, ap, sym, ◌∙◌, subst, arith, inl, inr}
+use Rattle.std.proofs.Common.{◌≡◌, ℕ, ◌+◌, ◌-◌, ◌<◌, ◌≤◌, List, [], ◌∷◌, ◌++◌, length, map, Bool, true, false, not, Ok, refl, ap, sym, ◌∙◌, subst, arith, inl, inr}
 use Rattle.std.specs.Prelude.{filter, ◌↔◌}
 use Rattle.std.specs.List.{Contains}
 use Rattle.std.specs.declared.cmp.Ordering.{Ordering}
@@ -21,20 +21,23 @@ use Rattle.ic_law.specs.declared.history.HubAsk.{HubAsk}
 use Rattle.ic_law.specs.declared.history.HubAsk.TheVariants.{Tick}
 use Rattle.ic_law.specs.declared.history.HubReply.TheVariants.{Ticked}
 use Rattle.ic_law.specs.declared.history.Entry.{Entry}
-use Rattle.ic_law.specs.History.{finishes, is_finish, finished_of}
+use Rattle.ic_law.specs.History.{chunk_put, chunks_put_of, finishes, is_finish, finished_of}
 use Rattle.ic_law.specs.Numbers.{IsIncreasingFrom}
 use Rattle.ic_law.specs.Emission.{clock_of, ticks_by, query_due}
 use Rattle.ic_law.proofs.Lists.{Contains-none, Contains-head, Contains-tail, Contains-map, map-Contains}
 use Rattle.ic_law.proofs.Timings.{ticks_of-push}
+use Rattle.ic_sender.specs.declared.flight.Flight.{Flight}
 use Rattle.ic_sender.specs.Sending.{Sending, waits_longer}
 use Rattle.ic_sender.specs.Entries.{IsTicking, Ticks, tried_when, queried_when}
-use Rattle.ic_sender.proofs.Lists.{in_filter, length-map}
+use Rattle.ic_sender.proofs.Lists.{behind_has, in_filter, length-map}
 use Rattle.ic_sender.proofs.Dues.{longer_is}
 use Rattle.ic_sender.proofs.Passing.{finished_stays}
 use Rattle.ic_sender.proofs.Ticking.{ticks_stand}
+use Rattle.ic_tally.specs.Counts.{HasCounted}
 use Rattle.ic_outgoing.specs.Outgoing.{OutgoingState, next_tick, numbers_due, datagrams_due, queries_due, ticking, MayTick}
-use Rattle.ic_outgoing.specs.Standing.{Stands, IsSound}
+use Rattle.ic_outgoing.specs.Standing.{Stands, HasResent, IsSound}
 use Rattle.ic_outgoing.proofs.Room.{IsFlying, flying}
+use Rattle.ic_outgoing.proofs.Counting.{ends_none, rows_after, resent_after, ticks_send}
 use Rattle.ic_outgoing.proofs.Steps.{state}
 
 -- ---- what is due increases
@@ -72,8 +75,8 @@ in_order next conn least (x ∷ xs) later are =
           (w.0, w.1, omega (arith, lt))),
     )
 
-pub due_increase : (s : Sending) (q : Queue) (now : ℕ) → IsSound s q now → IsQueue q → IsIncreasingFrom 1 (numbers_due (state s q.held now))
-due_increase s q now sound queue =
+pub due_increase : (s : Sending) (q : Queue) (now rows : ℕ) → IsSound s q now rows → IsQueue q → IsIncreasingFrom 1 (numbers_due (state s q.held now rows))
+due_increase s q now rows sound queue =
     in_order (next_tick now) s.conn 1 (filter (is_due (next_tick now)) q.held) (later_filter IsBefore (is_due (next_tick now)) q.held queue.sorted) (λ y at.
     let w = in_filter (is_due (next_tick now)) q.held y at in
     let upto = leb-true y.due (next_tick now) w.1 in
@@ -83,14 +86,30 @@ due_increase s q now sound queue =
     waiting : (y : Item) → Contains q.held y → IsFlying s now y
     waiting y at = elim (cases_Bool s.stopped) [
       | inl off ↦ absurd (Contains-none y (subst (λ l. Contains l y) (sound.still off) at))
-      | inr on ↦ flying s q now sound on y at
+      | inr on ↦ flying s q now rows sound on y at
+    ]
+
+-- what is due is on its way
+due_fly : (s : Sending) (q : Queue) (now rows : ℕ) → IsSound s q now rows → (n : ℕ) → Contains (numbers_due (state s q.held now rows)) n → Contains (map (λ (f : Flight). f.seq) s.flights) n
+due_fly s q now rows sound n at =
+    let next = next_tick now in
+    let p = map-Contains (λ (d : Due). d.seq) (dues_of next q.held) n at in
+    let y = map-Contains packet_of (filter (is_due next) q.held) p.0 p.1 in
+    let waits = (in_filter (is_due next) q.held y.0 y.1).0 in
+    let number : n ≡ y.0.seq = p.2 ∙ ap (λ (d : Due). d.seq) y.2 in
+    elim (cases_Bool s.stopped) [
+      | inl off ↦ absurd (Contains-none y.0 (subst (λ l. Contains l y.0) (sound.still off) waits))
+      | inr on ↦
+          let m = (sound.stands.sends.reflects.runs on).mirrors in
+          let f = flying s q now rows sound on y.0 waits in
+          subst (λ l. Contains l n) (sym m.flights) (behind_has s.acked (s.sent - s.acked) n (omega (arith, number, f.from)) (omega (arith, number, f.upto, m.up)))
     ]
 
 -- ---- what is due waits no more, and then waits longer
 
 -- a number that is due is of a packet that is due
-due_to : (s : Sending) (q : Queue) (now : ℕ) → IsSound s q now → (n : ℕ) → Contains (numbers_due (state s q.held now)) n → Contains (dues_of (next_tick now) q.held) (record { conn = s.conn; seq = n })
-due_to s q now sound n at =
+due_to : (s : Sending) (q : Queue) (now rows : ℕ) → IsSound s q now rows → (n : ℕ) → Contains (numbers_due (state s q.held now rows)) n → Contains (dues_of (next_tick now) q.held) (record { conn = s.conn; seq = n })
+due_to s q now rows sound n at =
     let next = next_tick now in
     let p = map-Contains (λ (d : Due). d.seq) (dues_of next q.held) n at in
     let y = map-Contains packet_of (filter (is_due next) q.held) p.0 p.1 in
@@ -102,14 +121,14 @@ due_to s q now sound n at =
     due : ℕ → ℕ → Due
     due conn seq = record { conn = conn; seq = seq }
 
-pub due_both : (s : Sending) (q : Queue) (now : ℕ) → IsSound s q now → (n : ℕ) → Contains (numbers_due (state s q.held now)) n ↔ Contains (dues_of (next_tick now) q.held) (record { conn = s.conn; seq = n })
-due_both s q now sound n = (due_to s q now sound n, λ at. Contains-map (λ (d : Due). d.seq) (dues_of (next_tick now) q.held) (record { conn = s.conn; seq = n }) at)
+pub due_both : (s : Sending) (q : Queue) (now rows : ℕ) → IsSound s q now rows → (n : ℕ) → Contains (numbers_due (state s q.held now rows)) n ↔ Contains (dues_of (next_tick now) q.held) (record { conn = s.conn; seq = n })
+due_both s q now rows sound n = (due_to s q now rows sound n, λ at. Contains-map (λ (d : Due). d.seq) (dues_of (next_tick now) q.held) (record { conn = s.conn; seq = n }) at)
 
-pub due_taken : (s : Sending) (q : Queue) (now : ℕ) → IsSound s q now → IsQueue q → (n : ℕ) → Contains (numbers_due (state s q.held now)) n → IsHeld s.conn n (without (is_due (next_tick now)) q.held) → ⊥
-due_taken s q now sound queue n at held = (due_takes q.held (next_tick now) queue.once).1 (record { conn = s.conn; seq = n }) (due_to s q now sound n at) held
+pub due_taken : (s : Sending) (q : Queue) (now rows : ℕ) → IsSound s q now rows → IsQueue q → (n : ℕ) → Contains (numbers_due (state s q.held now rows)) n → IsHeld s.conn n (without (is_due (next_tick now)) q.held) → ⊥
+due_taken s q now rows sound queue n at held = (due_takes q.held (next_tick now) queue.once).1 (record { conn = s.conn; seq = n }) (due_to s q now rows sound n at) held
 
-pub due_room : (s : Sending) (q : Queue) (now : ℕ) → IsSound s q now → IsQueue q → length (without (is_due (next_tick now)) q.held) + length (numbers_due (state s q.held now)) ≤ q.room
-due_room s q now sound queue =
+pub due_room : (s : Sending) (q : Queue) (now rows : ℕ) → IsSound s q now rows → IsQueue q → length (without (is_due (next_tick now)) q.held) + length (numbers_due (state s q.held now rows)) ≤ q.room
+due_room s q now rows sound queue =
     let P = is_due (next_tick now) in
     let both : length (filter P q.held) + length (filter (λ y. not (P y)) q.held) ≡ length q.held = length-filter_both P (λ y. not (P y)) (λ y. refl) q.held in
     let dues = dues_of (next_tick now) q.held in
@@ -141,10 +160,10 @@ ticking_same o =
 
 -- ---- it stands
 
-pub tick_stands : (s : Sending) (q : Queue) (now : ℕ) (numbers : List ℕ) → IsSound s q now → IsQueue q → MayTick (state s q.held now) numbers
-    → (h : List Entry) (e : Entry) → IsTicking s.end.key (datagrams_due (state s q.held now) ++ queries_due (state s q.held now)) e → Stands (state s q.held now) h → Stands (ticking (state s q.held now)) (h ++ e ∷ [])
-tick_stands s q now numbers sound queue may h e is old =
-    let o = state s q.held now in
+pub tick_stands : (s : Sending) (q : Queue) (now rows : ℕ) (numbers : List ℕ) → IsSound s q now rows → IsQueue q → MayTick (state s q.held now rows) numbers
+    → (h : List Entry) (e : Entry) → IsTicking s.end.key (datagrams_due (state s q.held now rows) ++ queries_due (state s q.held now rows)) e → Stands (state s q.held now rows) h → Stands (ticking (state s q.held now rows)) (h ++ e ∷ [])
+tick_stands s q now rows numbers sound queue may h e is old =
+    let o = state s q.held now rows in
     let next = next_tick now in
     let mine = datagrams_due o ++ queries_due o in
     let new = (ticking o).sending in
@@ -156,8 +175,8 @@ tick_stands s q now numbers sound queue may h e is old =
     let none : finishes s.end.key e ≡ false = ap (λ (a : HubAsk). is_finish s.end.key a e.reply) is.ask in
     let ticks : Ticks next s q.held mine new left = record {
       numbers = numbers_due o;
-      increase = due_increase s q now sound queue;
-      due = due_both s q now sound;
+      increase = due_increase s q now rows sound queue;
+      due = due_both s q now rows sound;
       unspent = may.unspent;
       answered = may.answered;
       datagrams = refl;
@@ -168,16 +187,20 @@ tick_stands s q now numbers sound queue may h e is old =
       clock = clock;
       finished = ap (λ (x : ConnEnd). finished_of x.key (h ++ e ∷ [])) same.end ∙ finished_stays s.end.key h e none ∙ old.finished ∙ sym same.finished;
       sends = ticks_stand s q.held next mine new left h e ticks clock is old.sends;
+      rows = subst (λ (x : ConnEnd). HasCounted (chunks_put_of x.key (h ++ e ∷ [])) rows) (sym same.end)
+          (rows_after s.end.key rows rows h e (ends_none s.end.key rows e (ap (λ (a : HubAsk). chunk_put s.end.key a e.reply) is.ask)) old.rows);
+      resent = subst (λ (x : ConnEnd). HasResent x.key (h ++ e ∷ []) new.sent new.resent) (sym same.end)
+          (resent_after s new h e (ticks_send s q.held h next next (numbers_due o) (query_due next s.asked) e old.sends (due_fly s q now rows sound) is) old.resent);
     }
 
 -- once nothing waits nothing is due
-nothing_left : (s : Sending) (now : ℕ) (held : List Item) → held ≡ [] → (ticking (state s held now)).held ≡ []
-nothing_left s now held none = ap (λ l. waits_longer (next_tick now) s (map (λ (d : Due). d.seq) (dues_of (next_tick now) l)) (without (is_due (next_tick now)) l)) none
+nothing_left : (s : Sending) (now rows : ℕ) (held : List Item) → held ≡ [] → (ticking (state s held now rows)).held ≡ []
+nothing_left s now rows held none = ap (λ l. waits_longer (next_tick now) s (map (λ (d : Due). d.seq) (dues_of (next_tick now) l)) (without (is_due (next_tick now)) l)) none
 
-pub tick_sound : (s : Sending) (q : Queue) (now : ℕ) (numbers : List ℕ) → IsSound s q now → IsQueue q → MayTick (state s q.held now) numbers
-    → IsSound (ticking (state s q.held now)).sending (record { held = (ticking (state s q.held now)).held; asked = next_tick now; room = q.room }) (next_tick now)
-tick_sound s q now numbers sound queue may =
-    let o = state s q.held now in
+pub tick_sound : (s : Sending) (q : Queue) (now rows : ℕ) (numbers : List ℕ) → IsSound s q now rows → IsQueue q → MayTick (state s q.held now rows) numbers
+    → IsSound (ticking (state s q.held now rows)).sending (record { held = (ticking (state s q.held now rows)).held; asked = next_tick now; room = q.room }) (next_tick now) rows
+tick_sound s q now rows numbers sound queue may =
+    let o = state s q.held now rows in
     let next = next_tick now in
     let same = ticking_same o in
     let mine = datagrams_due o ++ queries_due o in
@@ -189,13 +212,13 @@ tick_sound s q now numbers sound queue may =
       last = omega arith;
       room = sound.room ∙ ap (λ (x : Settings). x.send_depth) (sym same.settings);
       own = λ y at. own y at ∙ sym same.conn;
-      still = λ off. nothing_left s now q.held (sound.still (sym same.stopped ∙ off));
+      still = λ off. nothing_left s now rows q.held (sound.still (sym same.stopped ∙ off));
       history = sound.history ++ e ∷ [];
-      stands = tick_stands s q now numbers sound queue may sound.history e is sound.stands;
+      stands = tick_stands s q now rows numbers sound queue may sound.history e is sound.stands;
     }
   where
-    own : (y : Item) → Contains (ticking (state s q.held now)).held y → y.conn ≡ s.conn
-    own y at = elim (longer_is (next_tick now) s (numbers_due (state s q.held now)) (without (is_due (next_tick now)) q.held) y at) [
+    own : (y : Item) → Contains (ticking (state s q.held now rows)).held y → y.conn ≡ s.conn
+    own y at = elim (longer_is (next_tick now) s (numbers_due (state s q.held now rows)) (without (is_due (next_tick now)) q.held) y at) [
       | inl before ↦ sound.own y ((rest_holds q.held (is_due (next_tick now)) y).0 before).0
       | inr again ↦ ap (λ (x : Item). x.conn) again.2
     ]
@@ -210,10 +233,10 @@ asked_same : (numbers : List ℕ) (s : Sending) → (tried_when numbers s).asked
 asked_same [] s = refl
 asked_same (n ∷ numbers) s = refl
 
-pub ticked_as : (s : Sending) (q waits left : Queue) (now next : ℕ) (numbers : List ℕ) (tried after : Sending) → next ≡ next_tick now → MayTick (state s q.held now) numbers → waits ≡ passed q next → tried ≡ tried_when numbers s
+pub ticked_as : (s : Sending) (q waits left : Queue) (now rows next : ℕ) (numbers : List ℕ) (tried after : Sending) → next ≡ next_tick now → MayTick (state s q.held now rows) numbers → waits ≡ passed q next → tried ≡ tried_when numbers s
     → left ≡ record waits { held = waits_longer next s numbers waits.held } → after ≡ queried_when (query_due next tried.asked) next tried
-    → (after ≡ (ticking (state s q.held now)).sending) × (left ≡ record { held = (ticking (state s q.held now)).held; asked = next_tick now; room = q.room })
-ticked_as s q waits left now next numbers tried after next_is may pass try wait ask = (
+    → (after ≡ (ticking (state s q.held now rows)).sending) × (left ≡ record { held = (ticking (state s q.held now rows)).held; asked = next_tick now; room = q.room })
+ticked_as s q waits left now rows next numbers tried after next_is may pass try wait ask = (
   ask ∙ ap (λ (x : Sending). queried_when (query_due next x.asked) next x) try ∙ ap (λ o. queried_when (query_due next o) next (tried_when numbers s)) (asked_same numbers s)
       ∙ ap (λ n. queried_when (query_due n s.asked) n (tried_when numbers s)) next_is
       ∙ ap (λ l. queried_when (query_due (next_tick now) s.asked) (next_tick now) (tried_when l s)) may.due,

@@ -1,5 +1,5 @@
 -- A sending connection with what waits for its answers, and the tick at which it is.
-use Rattle.std.specs.Prelude.{◌≡◌, ℕ, ◌+◌, min, List, [], map, Bool, false, Option, None, Result, Ok}
+use Rattle.std.specs.Prelude.{◌≡◌, ℕ, ◌+◌, min, List, [], ◌∷◌, map, Bool, false, Option, None, Result, Ok, Err}
 use Rattle.ic_base.specs.declared.keys.ConnEnd.{ConnEnd}
 use Rattle.ic_base.specs.declared.settings.Settings.{Settings}
 use Rattle.ic_base.specs.declared.datagram.Datagram.{Datagram}
@@ -23,10 +23,12 @@ pub record OutgoingState : Type 0 where
   pub held : List Item
   -- the tick at which it is
   pub now : ℕ
+  -- how many rows the chunks that were put end
+  pub rows : ℕ
 
 -- of which nothing was put
 abbrev pub begun_at : ConnEnd → Settings → ℕ → OutgoingState
-begun_at end settings now = record { sending = begun end 0 settings; held = []; now = now }
+begun_at end settings now = record { sending = begun end 0 settings; held = []; now = now; rows = 0 }
 
 -- what waits as a queue, asked at this tick, with room for as many packets as are kept
 abbrev pub queue_of : OutgoingState → Queue
@@ -36,6 +38,13 @@ queue_of o = record { held = o.held; asked = o.now; room = o.sending.settings.se
 pub record SameEnd (old new : OutgoingState) : Type 0 where
   pub end : new.sending.end ≡ old.sending.end
   pub settings : new.sending.settings ≡ old.sending.settings
+
+-- ---- a put
+
+-- the chunk, where it was taken
+abbrev pub taken_of : List ℕ → Result (List Datagram) SendNo → List (List ℕ)
+taken_of chunk (Ok ds) = chunk ∷ []
+taken_of chunk (Err refusal) = []
 
 -- ---- an answer
 
@@ -83,6 +92,7 @@ ticking o =
       sending = queried_when (query_due (next_tick o.now) o.sending.asked) (next_tick o.now) (tried_when (numbers_due o) o.sending);
       held = waits_longer (next_tick o.now) o.sending (numbers_due o) (without (is_due (next_tick o.now)) o.held);
       now = next_tick o.now;
+      rows = o.rows;
     }
 
 -- nothing is given up at the next tick, at which these packets are due

@@ -1,23 +1,34 @@
 -- The histories that a sending connection with its clock stands for.
-use Rattle.std.specs.Prelude.{◌≡◌, ℕ, ◌≤◌, List, [], ◌∷◌, ◌++◌, true, false, Result, Ok, Err, Contains}
+use Rattle.std.specs.Prelude.{◌≡◌, ℕ, ◌+◌, ◌-◌, ◌^◌, ◌≤◌, min, List, [], ◌∷◌, ◌++◌, length, true, false, Result, Ok, Err, Contains}
 use Rattle.ic_base.specs.declared.keys.ConnKey.{ConnKey}
 use Rattle.ic_base.specs.declared.keys.ConnEnd.{ConnEnd}
 use Rattle.ic_expire.specs.declared.item.Item.{Item}
 use Rattle.ic_expire.specs.Queue.{Queue}
 use Rattle.ic_law.specs.declared.history.Entry.{Entry}
-use Rattle.ic_law.specs.History.{finished_of}
+use Rattle.ic_law.specs.History.{rows_emitted_of, chunks_put_of, finished_of}
 use Rattle.ic_law.specs.Emission.{last_tick, clock_of, timing_of, next_clock, spent_timers, spent_query, packets_spent, query_spent}
 use Rattle.ic_sender.specs.declared.send_no.SendNo.{SendNo}
 use Rattle.ic_sender.specs.declared.send_no.SendNo.TheVariants.{Full, Stopped, TooLong, Spent, Stray, Memory}
 use Rattle.ic_sender.specs.Sending.{Sending}
 use Rattle.ic_sender.specs.Standing.{Stands as StandsFor, IsUntouched}
+use Rattle.ic_tally.specs.Counts.{HasCounted}
 use Rattle.ic_outgoing.specs.Outgoing.{OutgoingState}
 
+-- beside those that were sent for the first time, so many packets of rows were emitted again, as a count of 128 bits
+-- tells it
+pub record HasResent (c : ConnKey) (h : List Entry) (sent resent : ℕ) : Type 0 where
+  pub again : ℕ
+  pub emitted : length (rows_emitted_of c h) ≡ sent + again
+  pub told : resent ≡ min again (2 ^ 128 - 1)
+
 -- It is at the tick of a history, finished where the history says so, and its connection, with what waits, stands for it.
+-- Its counts are those of the history.
 pub record Stands (o : OutgoingState) (h : List Entry) : Type 0 where
   pub clock : clock_of h ≡ o.now
   pub finished : finished_of o.sending.end.key h ≡ o.sending.finished
   pub sends : StandsFor o.sending o.held h
+  pub rows : HasCounted (chunks_put_of o.sending.end.key h) o.rows
+  pub resent : HasResent o.sending.end.key h o.sending.sent o.sending.resent
 
 -- as it begins it stands for each history of so many ticks in which its end isn't there yet
 abbrev pub StandsFirst : ConnEnd → ℕ → OutgoingState → Type 0
@@ -63,7 +74,7 @@ Tells {A = A} o Keeps GivesUp (Err Memory) = Unit {0}
 
 -- The queue is the connection's own: asked at this tick, with room for what is kept, of this connection alone, and empty
 -- once the peer wants no more. There is a history for which all of it stands.
-pub record IsSound (s : Sending) (q : Queue) (now : ℕ) : Type 0 where
+pub record IsSound (s : Sending) (q : Queue) (now rows : ℕ) : Type 0 where
   pub conn : s.conn ≡ 0
   pub asked : q.asked ≡ now
   pub last : now ≤ last_tick
@@ -71,4 +82,4 @@ pub record IsSound (s : Sending) (q : Queue) (now : ℕ) : Type 0 where
   pub own : (y : Item) → Contains q.held y → y.conn ≡ s.conn
   pub still : s.stopped ≡ true → q.held ≡ []
   pub history : List Entry
-  pub stands : Stands (record { sending = s; held = q.held; now = now }) history
+  pub stands : Stands (record { sending = s; held = q.held; now = now; rows = rows }) history

@@ -1,12 +1,13 @@
 // What is put, and the answers that come.
-ghost use Rattle.std.specs.Prelude.{◌≡◌, ◌≤◌, ◌<◌, ◌+◌, ◌^◌, length, true, false, IfOk, OnErr};
+ghost use Rattle.std.specs.Prelude.{◌≡◌, ◌≤◌, ◌<◌, ◌+◌, ◌++◌, ◌^◌, ℕ, List, length, true, false, IfOk, OnErr};
 ghost use Rattle.ic_header.specs.Spelling.{AllowsBody};
 ghost use Rattle.ic_law.specs.Packets.{goes_forth};
+ghost use Rattle.ic_tally.specs.Counts.{HasCounted};
 ghost use Rattle.ic_sender.specs.Sending.{adding, ending};
 ghost use Rattle.ic_sender.specs.Calls.{Puts, NeedsPacket, IsNow, WaitsAlone, LeavesRoom, unsent};
 ghost use Rattle.ic_sender.specs.Entries.{IsPutting, IsFinishing, IsHearing};
 ghost use Rattle.ic_sender.specs.Standing.{StandsOn};
-ghost use Rattle.ic_outgoing.specs.Outgoing.{queue_of, SameEnd, HearsBy};
+ghost use Rattle.ic_outgoing.specs.Outgoing.{queue_of, SameEnd, HearsBy, taken_of};
 ghost use Rattle.ic_outgoing.specs.Emitted.{AreOutgoing};
 ghost use Rattle.ic_outgoing.specs.Standing.{StandsNext};
 
@@ -15,6 +16,7 @@ use ic_base::Datagrams;
 use ic_expire::Expiry;
 use ic_header::{Flags, Header};
 use ic_sender::{SendNo, Sender};
+use ic_tally::count_more;
 use std::alloc::Global;
 
 /// Does nothing. Its clauses: numbers of 32 bits are such.
@@ -22,6 +24,17 @@ fn are_words(seq: u32, extra: u32)
     ensures seq { seq < 2 ^ 32 }
     ensures extra { extra < 2 ^ 32 }
 {}
+
+/// The count of the rows that were put, with those of a chunk, where it was taken.
+fn rows_with(rows: u64, chunk: &[u8], given: &Result<Datagrams, SendNo>) -> u64
+    ensures counts { (payloads : List (List ℕ)) → HasCounted payloads rows → HasCounted (payloads ++ taken_of chunk.now given.now) result }
+    ensures err { OnErr given.now (result ≡ rows) }
+{
+    match given {
+        Ok(_datagrams) => count_more(rows, chunk),
+        Err(_no) => rows,
+    }
+}
 
 /// An answer, by its kind.
 fn answer(
@@ -56,8 +69,8 @@ fn answer(
 impl Outgoing {
     /// Puts a chunk of 4 bytes or more that isn't an end of stream, and emits what there is room for. Where the chunk
     /// doesn't fit in the packet that is being filled, that packet is sealed. Allocates for the datagrams that go out, and
-    /// copies the chunk once, and each packet once when it is sealed and once when it is first emitted. Where it is
-    /// refused nothing changes.
+    /// copies the chunk once, and each packet once when it is sealed and once when it is first emitted. Counts the row that
+    /// ends with it, if one does. Where it is refused nothing changes.
     pub fn put(&mut self, alloc: Global, chunk: &[u8]) -> Result<Datagrams, SendNo>
         requires unfinished { self.old.sending.finished ≡ false }
         requires least { 4 ≤ length chunk.now }
@@ -70,7 +83,9 @@ impl Outgoing {
         ensures stands { StandsNext self.old self.new (IsPutting self.old.sending.end.key chunk.now result) }
     {
         bounded(&self.sender, &self.waits);
-        self.sender.put(alloc, chunk, self.tick, &mut self.waits)
+        let given = self.sender.put(alloc, chunk, self.tick, &mut self.waits);
+        self.rows = rows_with(self.rows, chunk, &given);
+        given
     }
 
     /// Puts the end of stream, which seals the packet that is being filled, and emits what there is room for. Copies that

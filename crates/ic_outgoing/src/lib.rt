@@ -6,10 +6,11 @@
 //! datagrams that the hub then emits. A tick has two phases, so that a refused one changes nothing: the hub first looks at
 //! all its connections, with `due` and `query`, and where nothing is given up it makes the change, with `ticked`. Ticks are
 //! the hub's count: each connection is told of each one, in the order of the hub. `is_over`, `is_stopped`, `is_finished`,
-//! `key`, `sent` and `resent` look.
+//! `key`, `sent`, `resent` and `rows` look: the last two count the packets that were emitted again, and the rows that were
+//! put.
 //!
 //! Read first: `specs/Outgoing.antt`, what it is and what a tick makes of it; then `specs/Standing.antt`, what it has to do
-//! with the history of its hub. Below: `ic_sender`, `ic_expire` and `ic_law`. Above: the hub.
+//! with the history of its hub. Below: `ic_sender`, `ic_expire`, `ic_tally` and `ic_law`. Above: the hub.
 #![tactic(auto)]
 
 mod due;

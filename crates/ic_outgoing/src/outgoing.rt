@@ -1,9 +1,12 @@
 // One sending connection and its queue.
-ghost use Rattle.std.specs.Prelude.{◌≡◌, ◌↔◌, ◌≤◌, List, length, true, IfOk, IsTrue};
+ghost use Rattle.std.specs.Prelude.{◌≡◌, ◌↔◌, ◌-◌, ◌^◌, ◌≤◌, min, List, length, true, IfOk, IsTrue};
 ghost use Rattle.ic_base.specs.Settings.{AreChecked};
+ghost use Rattle.ic_row.specs.Values.{Datum};
+ghost use Rattle.ic_tally.specs.Counts.{greatest_count};
 ghost use Rattle.ic_expire.specs.Queue.{IsQueue};
 ghost use Rattle.ic_law.specs.declared.history.Entry.{Entry};
-ghost use Rattle.ic_law.specs.History.{finished_of, sent_upto, stopped_of};
+ghost use Rattle.ic_law.specs.History.{rows_emitted_of, finished_of, sent_upto, stopped_of};
+ghost use Rattle.ic_law.specs.Streams.{AreSent};
 ghost use Rattle.ic_law.specs.Emission.{last_tick};
 ghost use Rattle.ic_sender.specs.Standing.{IsOver, IsOverIn};
 ghost use Rattle.ic_outgoing.specs.Outgoing.{begun_at};
@@ -26,6 +29,8 @@ pub struct Outgoing {
     pub(crate) waits: Expiry,
     /// How many ticks there were, up to the last one.
     pub(crate) tick: u64,
+    /// How many rows the chunks that were put end. Stands still at its greatest value.
+    pub(crate) rows: u64,
 }
 
 impl Model for Outgoing {
@@ -34,9 +39,9 @@ impl Model for Outgoing {
 
     ghost Value = { OutgoingState };
 
-    ghost view = { λ o. record { sending = o.sender; held = o.waits.held; now = o.tick } };
+    ghost view = { λ o. record { sending = o.sender; held = o.waits.held; now = o.tick; rows = o.rows } };
 
-    ghost invariant = { λ o. IsSound o.sender o.waits o.tick };
+    ghost invariant = { λ o. IsSound o.sender o.waits o.tick o.rows };
 }
 
 /// Does nothing but look. Its clauses: a queue is in order, and a connection keeps no more than its settings allow.
@@ -69,6 +74,7 @@ impl Outgoing {
             sender,
             waits,
             tick: now,
+            rows: 0,
         })
     }
 
@@ -112,8 +118,17 @@ impl Outgoing {
 
     /// How often a packet was emitted again. Stands still at its greatest value.
     pub fn resent(&self) -> u128
-        ensures { result ≡ self.now.sending.resent }
+        ensures value { result ≡ self.now.sending.resent }
+        ensures tells { (h : List Entry) → Stands self.now h → result ≡ min (length (rows_emitted_of self.now.sending.end.key h) - sent_upto self.now.sending.end.key h) (2 ^ 128 - 1) }
     {
         self.sender.resent()
+    }
+
+    /// How many rows were put: rows end with whole chunks and ends. Stands still at its greatest value.
+    pub fn rows(&self) -> u64
+        ensures value { result ≡ self.now.rows }
+        ensures tells { (h : List Entry) (rows : List (List Datum)) → Stands self.now h → AreSent self.now.sending.end.key h rows → result ≡ min greatest_count (length rows) }
+    {
+        self.rows
     }
 }

@@ -58,6 +58,30 @@ fn put(out: &mut Outgoing, alloc: Global, chunk: &[u8; 60]) -> Result<Datagrams,
     given(out.put(alloc, chunk.as_slice()))
 }
 
+/// Whether a chunk is refused, since as many packets are kept as may be.
+fn is_refused(out: &mut Outgoing, alloc: Global, chunk: &[u8; 60]) -> Result<bool, Fail>
+    requires { out.old.sending.settings.packet ≡ 128 }
+    ensures { out.new.sending.settings.packet ≡ 128 }
+{
+    if out.is_finished() {
+        return Err("it is finished".into());
+    }
+    match out.put(alloc, chunk.as_slice()) {
+        Err(SendNo::Full) => Ok(true),
+        _ => Ok(false),
+    }
+}
+
+/// A chunk of 60 bytes, of the kind with this number.
+fn chunk_of(kind: u8) -> [u8; 60] {
+    let mut chunk = [7; 60];
+    chunk[0] = 0;
+    chunk[1] = 56;
+    chunk[2] = 0;
+    chunk[3] = kind;
+    chunk
+}
+
 fn finish(out: &mut Outgoing, alloc: Global) -> Result<Datagrams, Fail> {
     if out.is_finished() {
         return Err("it is finished".into());
@@ -132,6 +156,27 @@ fn a_full_packet_goes_out_and_an_ack_frees_it(rt: HostRuntime) -> Result<(), Fai
 }
 
 #[test]
+fn a_row_counts_where_it_ends_and_a_refused_chunk_never(rt: HostRuntime) -> Result<(), Fail> {
+    let mut out = gather(rt.alloc(), 4)?;
+    let _none = put(&mut out, rt.alloc(), &chunk_of(0))?;
+    assert_eq!(rt; ("a whole row", out.rows()), ("a whole row", 1));
+    let _first = put(&mut out, rt.alloc(), &chunk_of(1))?;
+    let _second = put(&mut out, rt.alloc(), &chunk_of(2))?;
+    assert_eq!(rt;
+        ("a start and a middle", out.rows()),
+        ("a start and a middle", 1)
+    );
+    let full = is_refused(&mut out, rt.alloc(), &chunk_of(3))?;
+    assert!(rt; full);
+    assert_eq!(rt; ("an end, refused", out.rows()), ("an end, refused", 1));
+    let _third = given(out.hear(rt.alloc(), &answer(Flags::Ack, 2, 2), &[]))?;
+    let _none = put(&mut out, rt.alloc(), &chunk_of(3))?;
+    assert_eq!(rt; ("an end", out.rows()), ("an end", 2));
+    assert_eq!(rt; out.resent(), 0);
+    Ok(())
+}
+
+#[test]
 fn a_packet_without_an_answer_goes_out_again_at_tick_4(rt: HostRuntime) -> Result<(), Fail> {
     let mut out = gather(rt.alloc(), 4)?;
     let first = finish(&mut out, rt.alloc())?;
@@ -139,9 +184,11 @@ fn a_packet_without_an_answer_goes_out_again_at_tick_4(rt: HostRuntime) -> Resul
         let (none, _query) = tick(&mut out, rt.alloc())?;
         assert!(rt; none.as_slice().is_empty());
     }
+    assert_eq!(rt; out.resent(), 0);
     let (again, _query) = tick(&mut out, rt.alloc())?;
     assert!(rt; same(&again, &first));
     assert_eq!(rt; out.resent(), 1);
+    assert_eq!(rt; out.rows(), 0);
     Ok(())
 }
 
@@ -181,6 +228,7 @@ fn what_a_report_lists_goes_out_again(rt: HostRuntime) -> Result<(), Fail> {
     let _last = finish(&mut out, rt.alloc())?;
     let again = given(out.hear(rt.alloc(), &answer(Flags::Disorder, 2, 2), &[0, 0, 0, 1]))?;
     assert!(rt; same(&again, &first));
+    assert_eq!(rt; out.resent(), 1);
     Ok(())
 }
 

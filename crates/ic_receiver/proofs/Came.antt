@@ -8,6 +8,7 @@ use Rattle.ic_base.specs.declared.settings.Settings.{Settings}
 use Rattle.ic_base.specs.declared.datagram.Datagram.{Datagram}
 use Rattle.ic_base.specs.Keys.{key_eq}
 use Rattle.ic_header.specs.declared.flags.Flags.TheVariants.{Query, Ack, Stop, Disorder, Duplicate}
+use Rattle.ic_tally.specs.Counts.{HasCounted}
 use Rattle.ic_recvring.specs.Numbers as ring
 use Rattle.ic_recvring.specs.Ring.{Ring, Packet, numbers, stored_of, IsRepeated, IsBeyond, HasRoom}
 use Rattle.ic_recvring.proofs.Among.{Contains-head, numbers_bound}
@@ -20,7 +21,7 @@ use Rattle.ic_law.specs.declared.history.Arrived.TheVariants.{Dropped}
 use Rattle.ic_law.specs.declared.history.DropCause.TheVariants.{Beyond}
 use Rattle.ic_law.specs.declared.history.Entry.{Entry}
 use Rattle.ic_law.specs.Packets.{Packet as Read, RowPacket, packet_of, key_of, is_rows, is_last, answer_datagram}
-use Rattle.ic_law.specs.History.{rows_read, rows_in, stored_of as stored_in, stored_numbers_of, whole_of, IsHalted, datagram_tells_stored}
+use Rattle.ic_law.specs.History.{rows_read, rows_in, stored_of as stored_in, stored_numbers_of, payloads_of, whole_of, IsHalted, datagram_tells_stored}
 use Rattle.ic_law.specs.Receiving.{IsRunEnd, consumed_of, handled, listing, AnswersRows, AnswersQuery, Receives, Stopped as RowsStopped, Again as RowsAgain, Far as RowsFar, Next as RowsNext, Gap as RowsGap, QueryStopped as LawStopped, QueryTold as LawTold}
 use Rattle.ic_law.proofs.Lists.{Contains-one}
 use Rattle.ic_law.proofs.Readings.{every_push, rows_in-reads}
@@ -29,7 +30,7 @@ use Rattle.ic_receiver.specs.Entries.{row_of, came_of, IsHearing, IsQuerying}
 use Rattle.ic_receiver.specs.Standing.{Mirrors, Stands}
 use Rattle.ic_receiver.proofs.Numbers.{Same, same_run_end, same_greatest, same_missing, missing_first, run_behind}
 use Rattle.ic_receiver.proofs.Shown.{answer_tells, Lawful, lawful_none, lawful_stop, lawful_ack, lawful_duplicate, lawful_disorder}
-use Rattle.ic_receiver.proofs.Moving.{halted_push, halt_asked, Moves, moves_by, numbers_now, whole_same, consumed_same, run_had, run_had_still, mirrors_same, stands_still, entry_is}
+use Rattle.ic_receiver.proofs.Moving.{halted_push, halt_asked, Moves, moves_by, numbers_now, whole_same, payloads_same, consumed_same, run_had, run_had_still, mirrors_same, stands_still, entry_is}
 
 -- ---- the points at an arrival
 
@@ -103,6 +104,7 @@ record Heard (settings : Settings) (end : ConnEnd) (h : List Entry) (e : Entry) 
   point : Receives settings end h e
   mirrors : Mirrors settings end now (h ++ e ∷ [])
   whole : whole_of end.key (h ++ e ∷ []) ≡ whole_of end.key h
+  payloads : payloads_of end.key h ≡ payloads_of end.key (h ++ e ∷ [])
   on : IsHalted end.key h → IsHalted end.key (h ++ e ∷ [])
 
 module _ (settings : Settings) (end : ConnEnd) (s : Ring) (h : List Entry) (d : Datagram) (q : Packet) (mirrors : Mirrors settings end s h) (reads : rows_in end.key d ≡ row_of q ∷ []) where
@@ -122,6 +124,7 @@ module _ (settings : Settings) (end : ConnEnd) (s : Ring) (h : List Entry) (d : 
             (RowsAgain r mirrors.running run known (ap handled a.is));
         mirrors = mirrors_same settings end s h now m mirrors;
         whole = whole_same c h now [] m;
+        payloads = payloads_same c h now [] m;
         on = m.on;
       }
 
@@ -149,6 +152,7 @@ module _ (settings : Settings) (end : ConnEnd) (s : Ring) (h : List Entry) (d : 
             (RowsFar r mirrors.running run ahead (fresh settings end s h r q.seq mirrors one ahead new) (far_of far) refl);
         mirrors = mirrors_same settings end s h now m mirrors;
         whole = whole_same c h now [] m;
+        payloads = payloads_same c h now [] m;
         on = m.on;
       }
 
@@ -190,6 +194,7 @@ module _ (settings : Settings) (end : ConnEnd) (s : Ring) (h : List Entry) (d : 
             (RowsNext run mirrors.running (subst (IsRunEnd (stored_numbers_of c h)) at before) low near.0 near.1 after (ap handled (a.is ∙ ap (λ n. answer_datagram end Ack run n []) old_count)));
         mirrors = mirrors_more now m new;
         whole = whole_same c h now (row_of q ∷ []) m;
+        payloads = payloads_same c h now (row_of q ∷ []) m;
         on = m.on;
       }
   heard_kept x r one ahead new room (Gap g gap top a) =
@@ -211,6 +216,7 @@ module _ (settings : Settings) (end : ConnEnd) (s : Ring) (h : List Entry) (d : 
             (ap handled (a.is ∙ ap (λ l. answer_datagram end Disorder q.seq g (listing l)) (same_missing here (stored_numbers_of c h ++ q.seq ∷ []) r g same))));
         mirrors = mirrors_more now m new;
         whole = whole_same c h now (row_of q ∷ []) m;
+        payloads = payloads_same c h now (row_of q ∷ []) m;
         on = m.on;
       }
 
@@ -247,6 +253,7 @@ heard settings s after h d q a reads (Running old now runs hears same) stands =
         whole = new.whole ∙ stands.reflects.whole;
         halted = λ bad. absurd (let no : Some now ≡ None = bad in cc);
         runs = λ ring is. let same : now ≡ ring = cc in subst (λ r. Mirrors settings s.end r (h ++ e ∷ [])) same new.mirrors;
+        rows = subst (λ l. HasCounted l s.rows) new.payloads stands.reflects.rows;
       };
     })
 

@@ -7,13 +7,14 @@ use Rattle.ic_base.specs.declared.keys.ConnEnd.{ConnEnd}
 use Rattle.ic_base.specs.declared.settings.Settings.{Settings}
 use Rattle.ic_base.specs.declared.datagram.Datagram.{Datagram}
 use Rattle.ic_base.specs.declared.datagram.Parcel.{Parcel}
+use Rattle.ic_tally.specs.Counts.{HasCounted}
 use Rattle.ic_recvring.specs.Ring.{Ring}
 use Rattle.ic_law.specs.declared.history.HubAsk.{HubAsk}
 use Rattle.ic_law.specs.declared.history.HubAsk.TheVariants.{Begin, Put, Finish, Take, TakeFrom, Halt, Arrive, Tick, Clear, Leave}
 use Rattle.ic_law.specs.declared.history.HubReply.{HubReply}
 use Rattle.ic_law.specs.declared.history.Entry.{Entry}
 use Rattle.ic_law.specs.Packets.{RowPacket}
-use Rattle.ic_law.specs.History.{rows_in, number_of, arrives, arrived_of, rows_arrived_of, takes, parcels_of, is_last_parcel, whole_of, halts, IsHaltAsked, IsHalted, stores, stored_by, stored_of as stored_in, stored_numbers_of, datagrams_of, datagram_tells_stored}
+use Rattle.ic_law.specs.History.{rows_in, number_of, arrives, arrived_of, rows_arrived_of, takes, parcels_of, payload_in, payloads_of, is_last_parcel, whole_of, halts, IsHaltAsked, IsHalted, stores, stored_by, stored_of as stored_in, stored_numbers_of, datagrams_of, datagram_tells_stored}
 use Rattle.ic_law.specs.Points.{RunHad}
 use Rattle.ic_law.specs.Receiving.{IsRunEnd, consumed_of, Receives}
 use Rattle.ic_law.proofs.Lists.{cut_at, Contains-none, Contains-middle, Contains-flat_map, flat_map-Contains, map-append, map-Contains, list_any-append}
@@ -77,6 +78,12 @@ whole_now c h now ps qs m = ap (list_any is_last_parcel) m.took ∙ list_any-app
 pub whole_same : (c : ConnKey) (h now : List Entry) (qs : List RowPacket) → Moves c h now [] qs → whole_of c now ≡ whole_of c h
 whole_same c h now qs m = ap (list_any is_last_parcel) (m.took ∙ append-nil (parcels_of c h))
 
+pub payloads_now : (c : ConnKey) (h now : List Entry) (ps : List Parcel) (qs : List RowPacket) → Moves c h now ps qs → payloads_of c now ≡ payloads_of c h ++ map payload_in ps
+payloads_now c h now ps qs m = ap (map payload_in) m.took ∙ map-append payload_in (parcels_of c h) ps
+
+pub payloads_same : (c : ConnKey) (h now : List Entry) (qs : List RowPacket) → Moves c h now [] qs → payloads_of c h ≡ payloads_of c now
+payloads_same c h now qs m = ap (map payload_in) (sym (m.took ∙ append-nil (parcels_of c h)))
+
 pub consumed_same : (c : ConnKey) (h now : List Entry) (qs : List RowPacket) → Moves c h now [] qs → consumed_of c h ≡ consumed_of c now
 consumed_same c h now qs m = ap length (sym (m.took ∙ append-nil (parcels_of c h)))
 
@@ -139,6 +146,7 @@ reflects_same settings s h now m old = record {
   whole = whole_same s.end.key h now [] m ∙ old.whole;
   halted = λ none. m.on (old.halted none);
   runs = λ ring is. mirrors_same settings s.end ring h now m (old.runs ring is);
+  rows = subst (λ l. HasCounted l s.rows) (payloads_same s.end.key h now [] m) old.rows;
 }
 
 -- an entry that moved nothing

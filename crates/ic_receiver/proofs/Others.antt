@@ -1,5 +1,5 @@
 -- A receiving connection stands for its halts, for what doesn't concern it, and as it begins.
-use Rattle.std.proofs.Common.{◌≡◌, ◌≤◌, List, [], ◌∷◌, ◌++◌, Bool, true, false, cond, ◌==◌, ◌&&◌, ◌||◌, Option, Some, None, Ok, refl, ap, sym, ◌∙◌, subst, inl, inr, append-nil}
+use Rattle.std.proofs.Common.{◌≡◌, ◌≤◌, List, [], ◌∷◌, ◌++◌, map, Bool, true, false, cond, ◌==◌, ◌&&◌, ◌||◌, Option, Some, None, Ok, refl, ap, sym, ◌∙◌, subst, inl, inr, append-nil}
 use Rattle.std.specs.List.{list_any}
 use Rattle.ic_base.specs.declared.keys.ConnKey.{ConnKey}
 use Rattle.ic_base.specs.declared.keys.ConnEnd.{ConnEnd}
@@ -8,13 +8,15 @@ use Rattle.ic_base.specs.declared.datagram.Datagram.{Datagram}
 use Rattle.ic_base.specs.declared.datagram.Parcel.{Parcel}
 use Rattle.ic_base.proofs.SameKeys.{key_eq-same}
 use Rattle.ic_base.specs.Keys.{key_eq}
+use Rattle.ic_tally.specs.Counts.{HasCounted}
+use Rattle.ic_tally.proofs.Ended.{counted_none}
 use Rattle.ic_recvring.specs.Ring.{Ring, empty}
 use Rattle.ic_header.specs.declared.flags.Flags.TheVariants.{Ack, Stop, Disorder, Duplicate}
 use Rattle.ic_law.specs.declared.history.HubAsk.{HubAsk}
 use Rattle.ic_law.specs.declared.history.HubAsk.TheVariants.{Begin, Put, Finish, Take, TakeFrom, Halt, Arrive, Tick, Clear, Leave}
 use Rattle.ic_law.specs.declared.history.HubReply.TheVariants.{Gave, Memory}
 use Rattle.ic_law.specs.declared.history.Entry.{Entry}
-use Rattle.ic_law.specs.History.{takes, parcel_for, parcels_of, is_last_parcel, halts, is_halt, IsHaltAsked, stored_by}
+use Rattle.ic_law.specs.History.{takes, parcel_for, parcels_of, payload_in, is_last_parcel, halts, is_halt, IsHaltAsked, stored_by}
 use Rattle.ic_law.specs.Receiving.{IsTaking, AnswersHalt, HaltedNow, HaltedAgain, Receives}
 use Rattle.ic_law.proofs.Lists.{Contains-none, list_any-push}
 use Rattle.ic_law.proofs.Readings.{every_none, every_push, fold_every, parcels_of-push, stored_of-push}
@@ -88,6 +90,7 @@ halted_now settings s h d ring goes_on runs a stands =
         whole = ap (list_any is_last_parcel) took ∙ stands.reflects.whole;
         halted = λ none. record { before = h; entry = e; after = []; all = refl; asked = halts_it c (d ∷ []); unfinished = still };
         runs = λ r bad. absurd (let no : None ≡ Some r = bad in cc);
+        rows = subst (λ l. HasCounted l s.rows) (ap (map payload_in) (sym took)) stands.reflects.rows;
       };
     }
 
@@ -209,6 +212,7 @@ stands_begun settings end least = record {
       back = λ n there. absurd (Contains-none n there);
       kept = λ p there. absurd (Contains-none p there);
     });
+    rows = counted_none;
   };
 }
   where

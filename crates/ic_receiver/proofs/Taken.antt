@@ -12,6 +12,8 @@ use Rattle.ic_base.specs.declared.datagram.Parcel.{Parcel}
 use Rattle.ic_base.specs.Keys.{key_eq}
 use Rattle.ic_base.proofs.SameKeys.{key_eq-same}
 use Rattle.ic_header.specs.declared.flags.Flags.TheVariants.{Ack}
+use Rattle.ic_tally.specs.Counts.{HasCounted}
+use Rattle.ic_tally.proofs.Ended.{tells}
 use Rattle.ic_recvring.specs.Numbers as ring
 use Rattle.ic_recvring.specs.Ring.{Ring, Packet, numbers, stored_of, after_front}
 use Rattle.ic_recvring.proofs.Among.{Contains-tail, Contains-head, head_or_tail, numbers_bound}
@@ -23,17 +25,17 @@ use Rattle.ic_law.specs.declared.history.HubNo.{HubNo}
 use Rattle.ic_law.specs.declared.history.HubNo.TheVariants.{Empty, Ended}
 use Rattle.ic_law.specs.declared.history.Entry.{Entry}
 use Rattle.ic_law.specs.Packets.{RowPacket, answer_datagram}
-use Rattle.ic_law.specs.History.{rows_arrived_of, number_of, takes, parcel_for, parcels_of, whole_of, is_halt, stored_by, stored_of as stored_in, stored_numbers_of}
+use Rattle.ic_law.specs.History.{rows_arrived_of, number_of, takes, parcel_for, parcels_of, payloads_of, whole_of, is_halt, stored_by, stored_of as stored_in, stored_numbers_of}
 use Rattle.ic_law.specs.Points.{IsEnded}
 use Rattle.ic_law.specs.Receiving.{IsRunEnd, consumed_of, IsNext, IsTaken, IsTaking, TakesFrom, AnswersTake, Over, None as NothingNext, Taken, Receives}
 use Rattle.ic_law.proofs.Lists.{Contains-none, Contains-map}
 use Rattle.ic_law.proofs.Readings.{every_push}
 use Rattle.ic_receiver.specs.Receiving.{Receiving, HandsFront, HandsOver, IsOver, IsEmpty}
 use Rattle.ic_receiver.specs.Entries.{row_of, IsRefusing}
-use Rattle.ic_receiver.specs.Standing.{Mirrors, Stands}
+use Rattle.ic_receiver.specs.Standing.{Mirrors, Stands, TellsRows}
 use Rattle.ic_receiver.proofs.Numbers.{same_run_end}
 use Rattle.ic_receiver.proofs.Shown.{lawful_none, lawful_ack}
-use Rattle.ic_receiver.proofs.Moving.{Moves, moves_by, whole_now, stored_arrived, run_had_still, stands_still, entry_is}
+use Rattle.ic_receiver.proofs.Moving.{Moves, moves_by, whole_now, payloads_now, stored_arrived, run_had_still, stands_still, entry_is}
 use Rattle.ic_receiver.proofs.Came.{same_numbers}
 
 -- ---- the front
@@ -217,6 +219,9 @@ module _ (settings : Settings) (end : ConnEnd) (s now : Ring) (h : List Entry) (
       or_false true = refl
       or_false false = refl
 
+  payloads_taking : (ask : HubAsk) → TakesFrom end.key ask p → payloads_of end.key (h ++ record { ask = ask; reply = Took (Ok (p, d ∷ [])) } ∷ []) ≡ payloads_of end.key h ++ p.payload ∷ []
+  payloads_taking ask from = payloads_now end.key h _ (p ∷ []) [] (moves_taking ask from)
+
 pub stands_took : (settings : Settings) (s after : Receiving) (p : Parcel) (d : Datagram) (h : List Entry) (e : Entry) → HandsOver s p d after → IsTaking s.end.key p (d ∷ []) e → Stands settings s h
     → Stands settings after (h ++ e ∷ [])
 stands_took settings s after p d h e hands is stands =
@@ -231,6 +236,8 @@ stands_took settings s after p d h e hands is stands =
         whole = whole_taking settings s.end hands.ring hands.now h p d mirrors goes_on hands.hands e.ask is.ask;
         halted = λ bad. absurd (let no : Some hands.now ≡ None = bad in cc);
         runs = λ r again. let same : hands.now ≡ r = cc in subst (λ t. Mirrors settings s.end t (h ++ x ∷ [])) same there;
+        rows = subst (λ l. HasCounted l hands.rows) (sym (payloads_taking settings s.end hands.ring hands.now h p d mirrors goes_on hands.hands e.ask is.ask))
+            (hands.counted (payloads_of s.end.key h) stands.reflects.rows);
       };
     }))
 
@@ -239,6 +246,10 @@ takes_now settings s after p d h hands stands =
     let mirrors = stands.reflects.runs hands.ring hands.runs in
     let goes_on = stands.reflects.whole ∙ hands.goes_on in
     (not_ended settings s.end hands.ring h mirrors goes_on, is_taken settings s.end hands.ring hands.now h p d mirrors goes_on hands.hands)
+
+-- what a connection that stands for a history says of the rows that were taken
+pub tells_rows : (s : Receiving) → TellsRows s s.rows
+tells_rows s settings h rows stands taken = tells (payloads_of s.end.key h) rows taken.rest taken.ended s.rows taken.assemble stands.reflects.rows
 
 -- ---- refusals
 

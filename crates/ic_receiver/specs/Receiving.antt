@@ -1,5 +1,5 @@
 -- A receiving connection, and what each call does to it.
-use Rattle.std.specs.Prelude.{◌≡◌, ℕ, ◌+◌, ◌<◌, ◌≤◌, ◌⊎◌, List, [], length, Bool, true, false, Option, Some, None}
+use Rattle.std.specs.Prelude.{◌≡◌, ℕ, ◌+◌, ◌<◌, ◌≤◌, ◌⊎◌, List, [], ◌∷◌, ◌++◌, length, Bool, true, false, Option, Some, None}
 use Rattle.ic_base.specs.declared.keys.ConnEnd.{ConnEnd}
 use Rattle.ic_base.specs.declared.settings.Settings.{Settings}
 use Rattle.ic_base.specs.declared.datagram.Datagram.{Datagram}
@@ -9,14 +9,17 @@ use Rattle.ic_header.specs.declared.flags.Flags.TheVariants.{Ack, Stop, Disorder
 use Rattle.ic_header.specs.Spelling.{Heads}
 use Rattle.ic_recvring.specs.Numbers.{IsRunEnd, IsGreatest, missing}
 use Rattle.ic_recvring.specs.Ring.{Ring, Packet, stored_of, empty, placed, front_of, after_front, IsRepeated, IsNew, IsBeyond, HasRoom}
+use Rattle.ic_tally.specs.Counts.{HasCounted}
 use Rattle.ic_law.specs.Packets.{header_for, answer_datagram}
 use Rattle.ic_law.specs.Receiving.{listing}
 
--- an end with the ring of what came, which a halt drops; whole once the packet with the end of stream was taken
+-- An end with the ring of what came, which a halt drops; whole once the packet with the end of stream was taken; and how
+-- many rows ended in the payloads that were taken.
 pub record Receiving : Type 0 where
   pub end : ConnEnd
   pub ring : Option Ring
   pub whole : Bool
+  pub rows : ℕ
 
 -- a ring of at most 256 packets, where there is one
 abbrev pub IsShort : Option Ring → Type 0
@@ -25,7 +28,7 @@ IsShort None = Unit {0}
 
 -- as it begins
 abbrev pub begun : ConnEnd → Settings → Receiving
-begun end settings = record { end = end; ring = Some (empty settings.receive_depth settings.packet); whole = false }
+begun end settings = record { end = end; ring = Some (empty settings.receive_depth settings.packet); whole = false; rows = 0 }
 
 -- an answer of this end, and its bytes are its header and its body
 pub record IsAnswer (end : ConnEnd) (flags : Flags) (seq extra : ℕ) (body : List ℕ) (d : Datagram) : Type 0 where
@@ -102,14 +105,16 @@ pub record HandsFront (end : ConnEnd) (s : Ring) (p : Parcel) (d : Datagram) (af
   pub after_is : after ≡ after_front s
   pub stored : stored_of after ≡ stored_of s
 
--- where it is neither whole nor halted
+-- where it is neither whole nor halted; the rows that end in the payload are counted
 pub record HandsOver (s : Receiving) (p : Parcel) (d : Datagram) (after : Receiving) : Type 0 where
   pub goes_on : s.whole ≡ false
   pub ring : Ring
   pub runs : s.ring ≡ Some ring
   pub now : Ring
   pub hands : HandsFront s.end ring p d now
-  pub after_is : after ≡ record s { ring = Some now; whole = p.last }
+  pub rows : ℕ
+  pub counted : (payloads : List (List ℕ)) → HasCounted payloads s.rows → HasCounted (payloads ++ p.payload ∷ []) rows
+  pub after_is : after ≡ record s { ring = Some now; whole = p.last; rows = rows }
 
 -- ---- halting
 

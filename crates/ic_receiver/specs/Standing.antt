@@ -1,15 +1,18 @@
 -- The histories that a receiving connection stands for.
-use Rattle.std.specs.Prelude.{◌≡◌, ℕ, ◌≤◌, List, [], ◌∷◌, ◌++◌, Some, None, Contains}
+use Rattle.std.specs.Prelude.{◌≡◌, ℕ, ◌≤◌, min, List, [], ◌∷◌, ◌++◌, length, Some, None, Contains}
 use Rattle.ic_base.specs.declared.keys.ConnEnd.{ConnEnd}
 use Rattle.ic_base.specs.declared.settings.Settings.{Settings}
 use Rattle.ic_base.specs.declared.datagram.Datagram.{Datagram}
 use Rattle.ic_base.specs.declared.datagram.Parcel.{Parcel}
+use Rattle.ic_row.specs.declared.value.Value.{Value}
+use Rattle.ic_tally.specs.Counts.{HasCounted, greatest_count}
 use Rattle.ic_recvring.specs.Ring.{Ring, Packet, stored_of}
 use Rattle.ic_law.specs.declared.history.Entry.{Entry}
 use Rattle.ic_law.specs.Packets.{RowPacket}
-use Rattle.ic_law.specs.History.{stored_of as stored_in, stored_numbers_of, whole_of, IsHalted}
+use Rattle.ic_law.specs.History.{stored_of as stored_in, stored_numbers_of, payloads_of, whole_of, IsHalted}
 use Rattle.ic_law.specs.Points.{Every, IsEnded}
 use Rattle.ic_law.specs.Receiving.{consumed_of, IsNext, IsTaken, Receives}
+use Rattle.ic_law.specs.Streams.{AreTaken}
 use Rattle.ic_receiver.specs.Receiving.{Receiving}
 use Rattle.ic_receiver.specs.Entries.{row_of, IsSilent}
 
@@ -29,6 +32,7 @@ pub record Reflects (settings : Settings) (s : Receiving) (h : List Entry) : Typ
   pub whole : whole_of s.end.key h ≡ s.whole
   pub halted : s.ring ≡ None → IsHalted s.end.key h
   pub runs : (ring : Ring) → s.ring ≡ Some ring → Mirrors settings s.end ring h
+  pub rows : HasCounted (payloads_of s.end.key h) s.rows
 
 -- a connection stands for a history: each entry kept the points of its end, and it is what the history says of it
 pub record Stands (settings : Settings) (s : Receiving) (h : List Entry) : Type 0 where
@@ -59,3 +63,8 @@ NotReady s = (settings : Settings) (h : List Entry) → Stands settings s h → 
 -- more is to be taken, and this is the next of it
 abbrev pub TakesNow : Receiving → Parcel → Datagram → Type 0
 TakesNow s p d = (settings : Settings) (h : List Entry) → Stands settings s h → (IsEnded s.end.key h → ⊥) × IsTaken s.end h p (d ∷ [])
+
+-- so many rows were taken, as a count of 64 bits tells it, in each history for which it stands
+abbrev pub TellsRows : Receiving → ℕ → Type 0
+TellsRows s n = (settings : Settings) (h : List Entry) (rows : List (List Value)) → Stands settings s h → AreTaken s.end.key h rows
+    → n ≡ min greatest_count (length rows)

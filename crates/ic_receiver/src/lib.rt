@@ -5,11 +5,12 @@
 //! Events are `on_packet` and `on_query`, once the hub has found that a datagram is a packet of rows or a status query
 //! of this connection. Commands of the slice are `take`, which hands over the next packet's payload, and `halt`, which
 //! says that no more is wanted. Each gives the datagram that the hub then emits. `is_over` looks whether anything can
-//! still be taken. There is nothing to do at a tick: what a receiver answers is lost or not, and the sender asks again.
+//! still be taken, `is_whole` whether all was, and `rows` how many rows were. There is nothing to do at a tick: what a
+//! receiver answers is lost or not, and the sender asks again.
 //!
 //! Read first: `specs/Receiving.antt`, what each call does; then `specs/Standing.antt`, what a connection has to do with
-//! the history of its hub. Below: `ic_recvring`, which keeps the packets, and `ic_law`, the law of histories. Above: the
-//! hub.
+//! the history of its hub. Below: `ic_recvring`, which keeps the packets, `ic_tally`, which counts rows, and `ic_law`,
+//! the law of histories. Above: the hub.
 #![tactic(auto)]
 
 mod answer;

@@ -3,11 +3,12 @@ ghost use Rattle.std.specs.Prelude.{◌≡◌, ◌⊎◌, ℕ, ◌↔◌, List, 
 ghost use Rattle.ic_base.specs.Settings.{AreChecked};
 ghost use Rattle.ic_law.specs.declared.history.Entry.{Entry};
 ghost use Rattle.ic_law.specs.declared.history.HubNo.TheVariants as refused;
+ghost use Rattle.ic_law.specs.History.{whole_of};
 ghost use Rattle.ic_law.specs.Points.{IsEnded};
 ghost use Rattle.ic_law.specs.Receiving.{IsTaking};
 ghost use Rattle.ic_receiver.specs.Receiving.{Hears, HearsQuery, IsOver, IsEmpty, IsReady, HandsOver, Halts, begun};
 ghost use Rattle.ic_receiver.specs.Entries.{IsHearing, IsQuerying, IsRefusing, IsHalting};
-ghost use Rattle.ic_receiver.specs.Standing.{Stands, StandsOn, IsUntouched, TakesNoMore, WaitsForNext, NotReady, TakesNow};
+ghost use Rattle.ic_receiver.specs.Standing.{Stands, StandsOn, IsUntouched, TakesNoMore, WaitsForNext, NotReady, TakesNow, TellsRows};
 
 use crate::answer::answer;
 use crate::hearing::{hand_over, hear};
@@ -15,11 +16,12 @@ use crate::take_no::TakeNo;
 use ic_base::{ConnEnd, Datagram, Parcel, SegId, Settings};
 use ic_header::Flags;
 use ic_recvring::RecvRing;
+use ic_tally::count_more;
 use std::alloc::{AllocError, Global};
 use std::marker::Model;
 
-/// One receiving connection, seen as its end, the ring of the packets that came, and whether the packet with the end of
-/// stream was taken.
+/// One receiving connection, seen as its end, the ring of the packets that came, whether the packet with the end of
+/// stream was taken, and how many rows were.
 ///
 /// ```text
 ///            take of the packet with the end of stream
@@ -33,6 +35,8 @@ pub struct Receiver {
     /// What came. A halt drops it, with all its room.
     ring: Option<RecvRing>,
     whole: bool,
+    /// The rows that ended in the payloads that were taken. Stands still at its greatest value.
+    rows: u64,
 }
 
 impl Model for Receiver {
@@ -40,7 +44,7 @@ impl Model for Receiver {
 
     ghost Value = { Receiving };
 
-    ghost view = { λ r. record { end = r.end; ring = r.ring; whole = r.whole } };
+    ghost view = { λ r. record { end = r.end; ring = r.ring; whole = r.whole; rows = r.rows } };
 
     ghost invariant = { λ r. IsShort r.ring };
 }
@@ -59,6 +63,7 @@ impl Receiver {
             end,
             ring: Some(ring),
             whole: false,
+            rows: 0,
         })
     }
 
@@ -76,6 +81,22 @@ impl Receiver {
         ensures { result ≡ self.now.end.key.from }
     {
         self.end.key.from
+    }
+
+    /// How many rows were taken: rows end with whole chunks and ends. Stands still at its greatest value.
+    pub fn rows(&self) -> u64
+        ensures value { result ≡ self.now.rows }
+        ensures tells { TellsRows self.now result }
+    {
+        self.rows
+    }
+
+    /// Whether the packet with the end of stream was taken.
+    pub fn is_whole(&self) -> bool
+        ensures value { result ≡ self.now.whole }
+        ensures tells { (settings : _) (h : List Entry) → Stands settings self.now h → whole_of self.now.end.key h ≡ result }
+    {
+        self.whole
     }
 
     fn looks_ready(&self) -> bool
@@ -170,13 +191,14 @@ impl Receiver {
             Some(ring) => {
                 let (parcel, told) = hand_over(alloc, &self.end, ring)?;
                 self.whole = parcel.last;
+                self.rows = count_more(self.rows, parcel.payload.as_slice());
                 Ok((parcel, told))
             }
         }
     }
 
     /// The slice takes the next packet's payload. Gives it with the answer that tells the sender of the new room.
-    /// Copies the payload once.
+    /// Copies the payload once, and counts the rows that end in it: it goes over the heads of its chunks.
     pub fn take(&mut self, alloc: Global) -> Result<(Parcel, Datagram), TakeNo>
         ensures hands { IfOk result (λ r. HandsOver self.old r.0 r.1 self.new) }
         ensures empty { (result ≡ Err TakeNo.Empty) ↔ IsEmpty self.old }

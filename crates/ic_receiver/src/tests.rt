@@ -132,6 +132,30 @@ fn a_stream_is_handed_over_in_order_and_then_ended(rt: HostRuntime) -> Result<()
 }
 
 #[test]
+fn a_row_counts_once_its_end_is_taken(rt: HostRuntime) -> Result<(), Fail> {
+    let mut receiver = receiver(rt.alloc())?;
+    assert!(rt; matches!(receiver.take(rt.alloc()), Err(TakeNo::Empty)));
+    assert_eq!(rt; (receiver.rows(), receiver.is_whole()), (0, false));
+    // A whole row and the start of one; its end; the end of the stream.
+    let packets: [(u32, &[u8], u64); 3] = [
+        (1, b"\x00\x01\x00\x00\x07\x00\x01\x00\x01\x08", 1),
+        (2, b"\x00\x01\x00\x03\x09", 2),
+        (3, b"\x00\x00\x00\x04", 2),
+    ];
+    for (number, payload, _) in packets {
+        let answer = receiver.on_packet(rt.alloc(), number, payload, number == 3)?;
+        assert!(rt; answer.is_some() && receiver.rows() == 0 && !receiver.is_whole());
+    }
+    for (number, _, rows) in packets {
+        assert!(rt; receiver.take(rt.alloc()).is_ok());
+        assert_eq!(rt; (receiver.rows(), receiver.is_whole()), (rows, number == 3));
+    }
+    assert!(rt; matches!(receiver.take(rt.alloc()), Err(TakeNo::Ended)));
+    assert_eq!(rt; receiver.rows(), 2);
+    Ok(())
+}
+
+#[test]
 fn a_take_makes_room_for_one_packet_more(rt: HostRuntime) -> Result<(), Fail> {
     let mut receiver = receiver(rt.alloc())?;
     assert!(rt; matches!(receiver.take(rt.alloc()), Err(TakeNo::Empty)));
@@ -156,5 +180,20 @@ fn a_halt_stops_the_sender_again_and_again(rt: HostRuntime) -> Result<(), Fail> 
     says(receiver.on_query(rt.alloc(), 4)?, Flags::Stop, 4, 0, &[])?;
     assert!(rt; matches!(receiver.take(rt.alloc()), Err(TakeNo::Ended)));
     assert!(rt; receiver.halt(rt.alloc())?.is_none());
+    Ok(())
+}
+
+#[test]
+fn a_halt_leaves_the_count_of_rows(rt: HostRuntime) -> Result<(), Fail> {
+    let mut receiver = receiver(rt.alloc())?;
+    for number in [1, 2] {
+        let answer = receiver.on_packet(rt.alloc(), number, b"\x00\x01\x00\x00\x07", false)?;
+        assert!(rt; answer.is_some());
+    }
+    assert!(rt; receiver.take(rt.alloc()).is_ok());
+    says(receiver.halt(rt.alloc())?, Flags::Stop, 0, 0, &[])?;
+    assert_eq!(rt; (receiver.rows(), receiver.is_whole()), (1, false));
+    assert!(rt; matches!(receiver.take(rt.alloc()), Err(TakeNo::Ended)));
+    assert_eq!(rt; receiver.rows(), 1);
     Ok(())
 }

@@ -12,16 +12,16 @@ use Rattle.ic_outgoing.proofs.outgoing.Outgoing.due.Goals as goal
 pub returns-clause-tells : goal.returns-clause-tells
 returns-clause-tells c =
     subst (λ (o : OutgoingState). Tells o KeepsPackets GivesPacketUp c.look.result) c.self.view_is
-    (looks_tell c.self.inside.sender c.self.inside.waits c.self.inside.tick c.look.result c.self.invariant c.bounded.ensures.queue (subst (λ (o : OutgoingState). Looks o c.look.result) (sym c.self.view_is) c.look.ensures))
+    (looks_tell c.self.inside.sender c.self.inside.waits c.self.inside.tick c.self.inside.rows c.look.result c.self.invariant c.bounded.ensures.queue (subst (λ (o : OutgoingState). Looks o c.look.result) (sym c.self.view_is) c.look.ensures))
 
 pub returns-clause-formed : goal.returns-clause-formed
 returns-clause-formed c =
     subst (λ (o : OutgoingState). IfOk c.look.result (λ (d : Due). AreOutgoing o.sending d.datagrams)) c.self.view_is
-    (looks_formed c.self.inside.sender c.self.inside.waits c.self.inside.tick c.look.result c.self.invariant (subst (λ (o : OutgoingState). Looks o c.look.result) (sym c.self.view_is) c.look.ensures))
+    (looks_formed c.self.inside.sender c.self.inside.waits c.self.inside.tick c.self.inside.rows c.look.result c.self.invariant (subst (λ (o : OutgoingState). Looks o c.look.result) (sym c.self.view_is) c.look.ensures))
 
 pub returns-clause-ok : goal.returns-clause-ok
 returns-clause-ok c = looks_give c.args.self.now c.look.result c.look.ensures
 
 pub returns-clause-order : goal.returns-clause-order
 returns-clause-order c =
-    looks_increase c.self.inside.sender c.self.inside.waits c.self.inside.tick c.look.result c.self.invariant c.bounded.ensures.queue (subst (λ (o : OutgoingState). Looks o c.look.result) (sym c.self.view_is) c.look.ensures)
+    looks_increase c.self.inside.sender c.self.inside.waits c.self.inside.tick c.self.inside.rows c.look.result c.self.invariant c.bounded.ensures.queue (subst (λ (o : OutgoingState). Looks o c.look.result) (sym c.self.view_is) c.look.ensures)

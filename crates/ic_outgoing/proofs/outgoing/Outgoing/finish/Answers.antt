@@ -11,24 +11,24 @@ use Rattle.ic_outgoing.proofs.Going.{finish_stands, finish_sound, finish_formed}
 use Rattle.ic_outgoing.proofs.outgoing.Outgoing.finish.Goals as goal
 
 pub finish-requires-clause-alone : goal.finish-requires-clause-alone
-finish-requires-clause-alone c = waits_alone c.self.inside.sender c.self.inside.waits c.self.inside.tick c.self.invariant
+finish-requires-clause-alone c = waits_alone c.self.inside.sender c.self.inside.waits c.self.inside.tick c.self.inside.rows c.self.invariant
 
 pub finish-requires-clause-room : goal.finish-requires-clause-room
-finish-requires-clause-room c = leaves_more_room c.self.inside.sender c.self.inside.waits c.self.inside.tick c.self.invariant c.bounded.ensures.queue c.bounded.ensures.kept
+finish-requires-clause-room c = leaves_more_room c.self.inside.sender c.self.inside.waits c.self.inside.tick c.self.inside.rows c.self.invariant c.bounded.ensures.queue c.bounded.ensures.kept
 
 pub invariant_of-self : goal.invariant_of-self
 invariant_of-self c =
-    finish_sound c.self.inside.sender c.self.inside.waits c.self.inside.tick c.finish.result c.finish.new.self c.finish.new.expiry c.self.invariant (ap (λ (o : OutgoingState). o.sending.finished) c.self.view_is ∙ c.requires.unfinished) c.finish.ensures.puts
+    finish_sound c.self.inside.sender c.self.inside.waits c.self.inside.tick c.self.inside.rows c.finish.result c.finish.new.self c.finish.new.expiry c.self.invariant (ap (λ (o : OutgoingState). o.sending.finished) c.self.view_is ∙ c.requires.unfinished) c.finish.ensures.puts
     c.finish.ensures.stands
 
 pub returns-clause-formed : goal.returns-clause-formed
 returns-clause-formed c =
     subst (λ (o : OutgoingState). IfOk c.finish.result (AreOutgoing o.sending)) c.self.view_is
-    (finish_formed c.self.inside.sender c.self.inside.waits c.self.inside.tick c.finish.result c.finish.new.self c.finish.new.expiry c.self.invariant (ap (λ (o : OutgoingState). o.sending.finished) c.self.view_is ∙ c.requires.unfinished)
+    (finish_formed c.self.inside.sender c.self.inside.waits c.self.inside.tick c.self.inside.rows c.finish.result c.finish.new.self c.finish.new.expiry c.self.invariant (ap (λ (o : OutgoingState). o.sending.finished) c.self.view_is ∙ c.requires.unfinished)
     c.finish.ensures.puts c.finish.ensures.stands)
 
 pub returns-clause-stands : goal.returns-clause-stands
 returns-clause-stands c =
-    subst (λ (o : OutgoingState). (h : List Entry) (e : Entry) → IsFinishing o.sending.end.key c.finish.result e → Stands o h → Stands (state c.finish.new.self c.finish.new.expiry.held c.self.inside.tick) (h ++ e ∷ [])) c.self.view_is
-    (finish_stands c.self.inside.sender c.self.inside.waits c.self.inside.tick c.finish.result c.finish.new.self c.finish.new.expiry c.self.invariant (ap (λ (o : OutgoingState). o.sending.finished) c.self.view_is ∙ c.requires.unfinished)
+    subst (λ (o : OutgoingState). (h : List Entry) (e : Entry) → IsFinishing o.sending.end.key c.finish.result e → Stands o h → Stands (state c.finish.new.self c.finish.new.expiry.held c.self.inside.tick c.self.inside.rows) (h ++ e ∷ [])) c.self.view_is
+    (finish_stands c.self.inside.sender c.self.inside.waits c.self.inside.tick c.self.inside.rows c.finish.result c.finish.new.self c.finish.new.expiry c.self.invariant (ap (λ (o : OutgoingState). o.sending.finished) c.self.view_is ∙ c.requires.unfinished)
     c.finish.ensures.puts c.finish.ensures.stands)

@@ -12,29 +12,29 @@ use Rattle.ic_outgoing.proofs.Going.{hear_stands, hear_sound, hear_formed}
 use Rattle.ic_outgoing.proofs.outgoing.Outgoing.hear.Goals as goal
 
 pub answer-requires-clause-alone : goal.answer-requires-clause-alone
-answer-requires-clause-alone c = waits_alone c.self.inside.sender c.self.inside.waits c.self.inside.tick c.self.invariant
+answer-requires-clause-alone c = waits_alone c.self.inside.sender c.self.inside.waits c.self.inside.tick c.self.inside.rows c.self.invariant
 
 pub answer-requires-clause-room : goal.answer-requires-clause-room
-answer-requires-clause-room c = leaves_room c.self.inside.sender c.self.inside.waits c.self.inside.tick c.self.invariant c.bounded.ensures.queue c.bounded.ensures.kept
+answer-requires-clause-room c = leaves_room c.self.inside.sender c.self.inside.waits c.self.inside.tick c.self.inside.rows c.self.invariant c.bounded.ensures.queue c.bounded.ensures.kept
 
 pub invariant_of-self : goal.invariant_of-self
 invariant_of-self c =
     let head = c.args.head.now in
-    hear_sound head.flags head.seq head.extra c.args.body.now c.self.inside.sender c.self.inside.waits c.self.inside.tick c.answer.result c.answer.new.sender c.answer.new.waits c.requires.back c.self.invariant c.answer.ensures.hears
-    c.answer.ensures.stands c.requires.allowed c.requires.fits c.are_words.ensures.seq c.are_words.ensures.extra
+    hear_sound head.flags head.seq head.extra c.args.body.now c.self.inside.sender c.self.inside.waits c.self.inside.tick c.self.inside.rows c.answer.result c.answer.new.sender c.answer.new.waits c.requires.back c.requires.allowed c.self.invariant c.answer.ensures.hears
+    c.answer.ensures.stands c.requires.fits c.are_words.ensures.seq c.are_words.ensures.extra
 
 pub returns-clause-formed : goal.returns-clause-formed
 returns-clause-formed c =
     let head = c.args.head.now in
     subst (λ (o : OutgoingState). IfOk c.answer.result (AreOutgoing o.sending)) c.self.view_is
-    (hear_formed head.flags head.seq head.extra c.args.body.now c.self.inside.sender c.self.inside.waits c.self.inside.tick c.answer.result c.answer.new.sender c.answer.new.waits c.requires.back c.self.invariant c.answer.ensures.hears
+    (hear_formed head.flags head.seq head.extra c.args.body.now c.self.inside.sender c.self.inside.waits c.self.inside.tick c.self.inside.rows c.answer.result c.answer.new.sender c.answer.new.waits c.requires.back c.requires.allowed c.self.invariant c.answer.ensures.hears
     c.answer.ensures.stands (invariant_of-self c))
 
 pub returns-clause-stands : goal.returns-clause-stands
 returns-clause-stands c =
     let head = c.args.head.now in
-    subst (λ (o : OutgoingState). (h : List Entry) (e : Entry) → IsHearing o.sending.end.key head.flags head.seq head.extra c.args.body.now c.answer.result e → Stands o h → Stands (state c.answer.new.sender c.answer.new.waits.held c.self.inside.tick) (h ++ e ∷ [])) c.self.view_is
-    (hear_stands head.flags head.seq head.extra c.args.body.now c.self.inside.sender c.self.inside.waits c.self.inside.tick c.answer.result c.answer.new.sender c.answer.new.waits c.requires.back c.self.invariant c.answer.ensures.hears
+    subst (λ (o : OutgoingState). (h : List Entry) (e : Entry) → IsHearing o.sending.end.key head.flags head.seq head.extra c.args.body.now c.answer.result e → Stands o h → Stands (state c.answer.new.sender c.answer.new.waits.held c.self.inside.tick c.self.inside.rows) (h ++ e ∷ [])) c.self.view_is
+    (hear_stands head.flags head.seq head.extra c.args.body.now c.self.inside.sender c.self.inside.waits c.self.inside.tick c.self.inside.rows c.answer.result c.answer.new.sender c.answer.new.waits c.requires.back c.requires.allowed c.self.invariant c.answer.ensures.hears
     c.answer.ensures.stands)
 
 pub returns-clause-hears : goal.returns-clause-hears
@@ -43,8 +43,9 @@ returns-clause-hears c =
     let s = c.self.inside.sender in
     let q = c.self.inside.waits in
     let now = c.self.inside.tick in
+    let rows = c.self.inside.rows in
     let after = c.answer.new.sender in
     let left = c.answer.new.waits in
-    subst (λ (o : OutgoingState). HearsBy head.flags head.seq head.extra c.args.body.now o.sending (queue_of o) o.now c.answer.result after (queue_of (state after left.held now))) c.self.view_is
-    (subst (λ (x : Queue). HearsBy head.flags head.seq head.extra c.args.body.now s x now c.answer.result after (queue_of (state after left.held now))) (queue_is s q now c.self.invariant)
-    (subst (λ (x : Queue). HearsBy head.flags head.seq head.extra c.args.body.now s q now c.answer.result after x) (queue_is after left now (invariant_of-self c)) c.answer.ensures.hears))
+    subst (λ (o : OutgoingState). HearsBy head.flags head.seq head.extra c.args.body.now o.sending (queue_of o) o.now c.answer.result after (queue_of (state after left.held now rows))) c.self.view_is
+    (subst (λ (x : Queue). HearsBy head.flags head.seq head.extra c.args.body.now s x now c.answer.result after (queue_of (state after left.held now rows))) (queue_is s q now rows c.self.invariant)
+    (subst (λ (x : Queue). HearsBy head.flags head.seq head.extra c.args.body.now s q now c.answer.result after x) (queue_is after left now rows (invariant_of-self c)) c.answer.ensures.hears))

@@ -12,7 +12,7 @@ use Rattle.ic_outgoing.proofs.outgoing.Outgoing.look.Goals as goal
 pub returns-in_err-datagrams : goal.returns-in_err-datagrams
 returns-in_err-datagrams c =
     let p = err_from_is_err_and c.from_residual-in_err-datagrams.result c.from_residual-in_err-datagrams.ensures.1 in
-    let o : OutgoingState = state c.self.inside.sender c.self.inside.waits.held c.self.inside.tick in
+    let o : OutgoingState = state c.self.inside.sender c.self.inside.waits.held c.self.inside.tick c.self.inside.rows in
     let are : c.as_slice-2.result.now ≡ numbers_due o =
     c.as_slice-2.ensures.value ∙ c.in_ok-numbers.ensures ∙ ap (map (λ (d : DuePacket). d.seq)) (c.as_slice.ensures ∙ c.in_ok-dues.ensures.ok)
     ∙ ap (λ (n : ℕ). map (λ (d : DuePacket). d.seq) (dues_of n c.self.inside.waits.held)) c.tick_behind.ensures in
@@ -20,7 +20,7 @@ returns-in_err-datagrams c =
 
 pub returns : goal.returns
 returns c =
-    let o : OutgoingState = state c.self.inside.sender c.self.inside.waits.held c.self.inside.tick in
+    let o : OutgoingState = state c.self.inside.sender c.self.inside.waits.held c.self.inside.tick c.self.inside.rows in
     let numbers : c.as_slice-2.result.now ≡ c.from_vec.result = c.as_slice-2.ensures.value ∙ sym c.from_vec.ensures in
     let are : c.from_vec.result ≡ numbers_due o =
     c.from_vec.ensures ∙ c.in_ok-numbers.ensures ∙ ap (map (λ (d : DuePacket). d.seq)) (c.as_slice.ensures ∙ c.in_ok-dues.ensures.ok)

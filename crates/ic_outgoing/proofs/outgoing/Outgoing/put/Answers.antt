@@ -10,22 +10,22 @@ use Rattle.ic_outgoing.proofs.Steps.{state}
 use Rattle.ic_outgoing.proofs.Going.{put_stands, put_sound, put_formed}
 use Rattle.ic_outgoing.proofs.outgoing.Outgoing.put.Goals as goal
 
-pub put-requires-clause-alone : goal.put-requires-clause-alone
-put-requires-clause-alone c = waits_alone c.self.inside.sender c.self.inside.waits c.self.inside.tick c.self.invariant
+pub put-given-requires-clause-alone : goal.put-given-requires-clause-alone
+put-given-requires-clause-alone c = waits_alone c.self.inside.sender c.self.inside.waits c.self.inside.tick c.self.inside.rows c.self.invariant
 
-pub put-requires-clause-room : goal.put-requires-clause-room
-put-requires-clause-room c = leaves_more_room c.self.inside.sender c.self.inside.waits c.self.inside.tick c.self.invariant c.bounded.ensures.queue c.bounded.ensures.kept
+pub put-given-requires-clause-room : goal.put-given-requires-clause-room
+put-given-requires-clause-room c = leaves_more_room c.self.inside.sender c.self.inside.waits c.self.inside.tick c.self.inside.rows c.self.invariant c.bounded.ensures.queue c.bounded.ensures.kept
 
 pub invariant_of-self : goal.invariant_of-self
 invariant_of-self c =
-    put_sound c.self.inside.sender c.self.inside.waits c.self.inside.tick c.args.chunk.now c.put.result c.put.new.self c.put.new.expiry c.self.invariant c.put.ensures.puts c.put.ensures.stands
+    put_sound c.self.inside.sender c.self.inside.waits c.self.inside.tick c.self.inside.rows c.rows_with-self-inside.result c.args.chunk.now c.put-given.result c.put-given.new.self c.put-given.new.expiry c.self.invariant c.put-given.ensures.puts c.put-given.ensures.stands c.rows_with-self-inside.ensures.counts
 
 pub returns-clause-formed : goal.returns-clause-formed
 returns-clause-formed c =
-    subst (λ (o : OutgoingState). IfOk c.put.result (AreOutgoing o.sending)) c.self.view_is
-    (put_formed c.self.inside.sender c.self.inside.waits c.self.inside.tick c.args.chunk.now c.put.result c.put.new.self c.put.new.expiry c.self.invariant c.put.ensures.puts c.put.ensures.stands)
+    subst (λ (o : OutgoingState). IfOk c.put-given.result (AreOutgoing o.sending)) c.self.view_is
+    (put_formed c.self.inside.sender c.self.inside.waits c.self.inside.tick c.self.inside.rows c.rows_with-self-inside.result c.args.chunk.now c.put-given.result c.put-given.new.self c.put-given.new.expiry c.self.invariant c.put-given.ensures.puts c.put-given.ensures.stands c.rows_with-self-inside.ensures.counts)
 
 pub returns-clause-stands : goal.returns-clause-stands
 returns-clause-stands c =
-    subst (λ (o : OutgoingState). (h : List Entry) (e : Entry) → IsPutting o.sending.end.key c.args.chunk.now c.put.result e → Stands o h → Stands (state c.put.new.self c.put.new.expiry.held c.self.inside.tick) (h ++ e ∷ [])) c.self.view_is
-    (put_stands c.self.inside.sender c.self.inside.waits c.self.inside.tick c.args.chunk.now c.put.result c.put.new.self c.put.new.expiry c.self.invariant c.put.ensures.puts c.put.ensures.stands)
+    subst (λ (o : OutgoingState). (h : List Entry) (e : Entry) → IsPutting o.sending.end.key c.args.chunk.now c.put-given.result e → Stands o h → Stands (state c.put-given.new.self c.put-given.new.expiry.held c.self.inside.tick c.rows_with-self-inside.result) (h ++ e ∷ [])) c.self.view_is
+    (put_stands c.self.inside.sender c.self.inside.waits c.self.inside.tick c.self.inside.rows c.rows_with-self-inside.result c.args.chunk.now c.put-given.result c.put-given.new.self c.put-given.new.expiry c.self.invariant c.put-given.ensures.puts c.put-given.ensures.stands c.rows_with-self-inside.ensures.counts)

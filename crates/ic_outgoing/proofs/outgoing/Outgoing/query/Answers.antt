@@ -15,13 +15,13 @@ looked c = subst (λ (n : ℕ). Queries c.self.inside.sender n c.query_gives.res
 
 pub returns-clause-tells : goal.returns-clause-tells
 returns-clause-tells c =
-    subst (λ (o : OutgoingState). Tells o KeepsQuery GivesQueryUp c.query_gives.result) c.self.view_is (queries_tell c.self.inside.sender c.self.inside.waits.held c.self.inside.tick c.query_gives.result (looked c))
+    subst (λ (o : OutgoingState). Tells o KeepsQuery GivesQueryUp c.query_gives.result) c.self.view_is (queries_tell c.self.inside.sender c.self.inside.waits.held c.self.inside.tick c.self.inside.rows c.query_gives.result (looked c))
 
 pub returns-clause-formed : goal.returns-clause-formed
 returns-clause-formed c =
     subst (λ (o : OutgoingState). IfOk c.query_gives.result (AreOutgoing o.sending)) c.self.view_is
-    (queries_formed c.self.inside.sender c.self.inside.waits c.self.inside.tick (next_tick c.self.inside.tick) c.query_gives.result c.self.invariant (looked c))
+    (queries_formed c.self.inside.sender c.self.inside.waits c.self.inside.tick c.self.inside.rows (next_tick c.self.inside.tick) c.query_gives.result c.self.invariant (looked c))
 
 pub returns-clause-ok : goal.returns-clause-ok
 returns-clause-ok c =
-    subst (λ (o : OutgoingState). IfOk c.query_gives.result (GivesQuery o)) c.self.view_is (queries_give (state c.self.inside.sender c.self.inside.waits.held c.self.inside.tick) c.query_gives.result (looked c))
+    subst (λ (o : OutgoingState). IfOk c.query_gives.result (GivesQuery o)) c.self.view_is (queries_give (state c.self.inside.sender c.self.inside.waits.held c.self.inside.tick c.self.inside.rows) c.query_gives.result (looked c))

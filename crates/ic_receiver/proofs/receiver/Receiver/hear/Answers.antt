@@ -8,7 +8,7 @@ use Rattle.ic_receiver.proofs.receiver.Receiver.hear.Goals as goal
 use Rattle.ic_receiver.proofs.receiver.Receiver.hear.Goals.{in-None+in_ok-answer-in-None, in-Some}
 
 seen : Inside → Receiving
-seen r = record { end = r.end; ring = r.ring; whole = r.whole }
+seen r = record { end = r.end; ring = r.ring; whole = r.whole; rows = r.rows }
 
 pub returns-clause-hears : goal.returns-clause-hears
 unfolding seen
