@@ -20,3 +20,4 @@ pub mod TickingEmits
 pub mod TickingStands
 pub mod TickingRefused
 pub mod Gathers
+pub mod Counted

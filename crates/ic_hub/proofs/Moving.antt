@@ -26,9 +26,9 @@ use Rattle.ic_receiver.proofs.Others.{stands_silent}
 use Rattle.ic_sender.specs.Standing.{KeepsSending}
 use Rattle.ic_outgoing.specs.Outgoing.{OutgoingState, SameEnd}
 use Rattle.ic_outgoing.specs.Standing.{Stands as SenderStands}
+use Rattle.ic_outgoing.proofs.Silence.{others_pass}
 use Rattle.ic_sender.specs.Entries.{IsSilent}
-use Rattle.ic_sender.proofs.Beginning.{others_pass as sender_passes}
-use Rattle.ic_sender.proofs.Passing.{clock_stays, finished_stays}
+use Rattle.ic_sender.proofs.Passing.{clock_stays}
 use Rattle.ic_ends.specs.Entries.{IsOurs, HasEnd, EndsKeep, AsksOf, OfPut, OfFinish, OfTakeFrom, OfHalt, OfTake, OfArrive, Concerns, IsNought, NoMemory}
 use Rattle.ic_ends.specs.Living.{BeginsNone, LivesOn}
 use Rattle.ic_ends.specs.Laws.{IsAbout, AboutEnd, AboutNone, Holds, Goes}
@@ -56,16 +56,6 @@ set_on (x ∷ xs) zero zero d b h = inl (refl, refl)
 set_on (x ∷ xs) zero (suc j) d b h = inr (λ e. absurd (omega (arith, e)), h)
 set_on (x ∷ xs) (suc i) zero d b h = inr (λ e. absurd (omega (arith, e)), h)
 set_on (x ∷ xs) (suc i) (suc j) d b h = elim (set_on xs i j d b h) [ inl w ↦ inl (ap suc w.0, w.1) | inr w ↦ inr (λ e. w.0 (omega (arith, e)), w.1) ]
-
--- ---- an entry that doesn't concern it
-
-others_pass : (o : OutgoingState) (h : List Entry) (e : Entry) → IsSilent o.sending.end h e → SenderStands o h → SenderStands o (h ++ e ∷ [])
-others_pass o h e silent old =
-    record {
-      clock = clock_stays h e silent.still ∙ old.clock;
-      finished = finished_stays o.sending.end.key h e silent.nothing.finishes_none ∙ old.finished;
-      sends = sender_passes o.sending o.held h e silent old.sends;
-    }
 
 -- ---- places
 

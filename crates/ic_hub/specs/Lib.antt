@@ -9,3 +9,4 @@ pub mod Laws
 pub mod Taking
 pub mod Beginning
 pub mod Coming
+pub mod Counting

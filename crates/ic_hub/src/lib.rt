@@ -4,7 +4,7 @@
 //! Drive it so. `begin` a query with the ends that it has at this segment. Commands of the slices are `put`, `finish`,
 //! `take`, `take_from` and `halt`. Events are `arrive`, for each datagram that the network hands over, and `tick`. Each
 //! gives datagrams, and the caller sends them. `clear` says whether a query could be left, and `leave` ends it; from then
-//! on a late packet of it is answered Stop, and its number never begins again. `dropped` looks.
+//! on a late packet of it is answered Stop, and its number never begins again. `dropped` and `counts` look.
 //!
 //! Read first: `specs/Standing.antt`, which histories a hub stands for; then `specs/Hubbing.antt`, what it is. Below:
 //! `ic_conntab`, which finds a query's connections, `ic_places`, which says where they stand, `ic_outgoing` and
@@ -13,6 +13,8 @@
 
 mod arrive;
 mod begin;
+mod counting;
+mod counts;
 mod finding;
 mod hub;
 mod laws;
@@ -23,6 +25,7 @@ mod refusals;
 mod take;
 mod tick;
 
+pub use counts::Counts;
 pub use hub::Hub;
 pub use laws::{keeps_law, live_tells, stays_armed};
 

@@ -4,8 +4,9 @@ mod packets;
 mod pair;
 mod telling;
 
+use crate::Counts;
 use driving::Step::{Begin, Clear, Come, Finish, Halt, Leave, Row, Take, TakeFrom, Tick, Ticks};
-use driving::{Step, begun, hub};
+use driving::{Step, begun, counts, hub};
 use packets::Packet::{Ack, Astray, Cut, Good, Longer, Rows, With};
 use packets::{GOOD, Packet};
 use pair::Turn::{Dispatcher, Segment, ToDispatcher, ToSegment};
@@ -194,6 +195,55 @@ fn a_halt_stops_the_sender(rt: HostRuntime) -> Result<(), Fail> {
         (Segment(Leave(1)), "left"),
     ];
     tell_each_other(&rt, rt.alloc(), story.as_slice())
+}
+
+#[test]
+fn a_sender_counts_rows_put_and_packets_emitted(rt: HostRuntime) -> Result<(), Fail> {
+    let mut hub = begun(rt.alloc(), 0)?;
+    let story = [
+        (Row(10), "nothing"),
+        (Row(12), "nothing"),
+        (Finish, "LastRows of 1: 1 0"),
+        (Row(14), "Memory"),
+        (Ticks(3), "nothing"),
+        (Tick, "LastRows of 1: 1 0"),
+    ];
+    tells(&rt, rt.alloc(), &mut hub, story.as_slice())?;
+    let wanted = Counts {
+        rows: 2,
+        packets: 1,
+        resent: 1,
+        whole: false,
+    };
+    assert_eq!(rt; counts(&hub, 0, true)?, Some(wanted));
+    assert_eq!(rt; counts(&hub, 0, false)?, None);
+    assert_eq!(rt; counts(&hub, 1, true)?, None);
+    Ok(())
+}
+
+#[test]
+fn a_receiver_counts_rows_taken_until_the_query_is_left(rt: HostRuntime) -> Result<(), Fail> {
+    let mut hub = begun(rt.alloc(), -1)?;
+    let story = [
+        (Come(Rows(1, 1)), "Ack of 1: 1 0"),
+        (Come(Good), "Ack of 1: 1 0"),
+        (TakeFrom(0), "34 bytes from 0, the last; Ack of 1: 1 1"),
+        (TakeFrom(0), "Ended"),
+    ];
+    tells(&rt, rt.alloc(), &mut hub, story.as_slice())?;
+    let taken = |rows, whole| Counts {
+        rows,
+        packets: 0,
+        resent: 0,
+        whole,
+    };
+    assert_eq!(rt; counts(&hub, 0, false)?, Some(taken(2, true)));
+    assert_eq!(rt; counts(&hub, 1, false)?, Some(taken(0, false)));
+    assert_eq!(rt; counts(&hub, 0, true)?, None);
+    let story = [(Halt(1), "Stop of 1: 0 0"), (Leave(1), "left")];
+    tells(&rt, rt.alloc(), &mut hub, story.as_slice())?;
+    assert_eq!(rt; counts(&hub, 0, false)?, None);
+    Ok(())
 }
 
 #[test]

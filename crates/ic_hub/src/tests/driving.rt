@@ -4,7 +4,7 @@ ghost use Rattle.ic_law.specs.Asking.{IsEndHere};
 ghost use Rattle.ic_hub.specs.Hubbing.{place_in};
 
 use super::packets::{Packet, segment};
-use crate::Hub;
+use crate::{Counts, Hub};
 use ic_base::{BeginNo, ConnEnd, ConnKey, Datagrams, SegId, Settings};
 use ic_law::{HubReply, TickNo, Unclear};
 use std::alloc::Global;
@@ -164,6 +164,12 @@ fn clear(hub: &Hub, query: u32) -> Result<Result<(), Unclear>, Fail> {
         Some(_place) => Ok(hub.clear(query)),
         None => Err("not live".into()),
     }
+}
+
+/// What the connection of query 1 from this segment counts, at the end of this side.
+pub fn counts(hub: &Hub, from: i32, sending: bool) -> Result<Option<Counts>, Fail> {
+    let key = gather(hub, 1, segment(from)?);
+    Ok(hub.counts(&key, sending))
 }
 
 impl Step {
