@@ -3,6 +3,7 @@ use Rattle.std.proofs.Common.{◌≡◌, ◌≢◌, ◌⊎◌, ℕ, zero, suc, �
 use Rattle.std.specs.List.{AllByRecursion, Contains, list_any}
 use Rattle.std.specs.Option.{option_map}
 use Rattle.std.proofs.lemmas.List.{get_or_past, length-map}
+use Rattle.std.proofs.lemmas.List.Elements.{Contains-append_left}
 use Rattle.std.proofs.lemmas.Option.{slice_get-map, slice_get_within, slice_get_cases, get_or_from_slice_get}
 use Rattle.std.proofs.lemmas.Bool.Decides.{Decides-eqb}
 use Rattle.ic_base.specs.declared.keys.ConnKey.{ConnKey}
@@ -41,10 +42,10 @@ use Rattle.gd_sim.specs.declared.station.Worker.TheVariants.{Rests, Sends, Takes
 use Rattle.gd_sim.specs.declared.station.Station.{Station}
 use Rattle.gd_sim.specs.declared.sim.Sim.{Sim}
 use Rattle.gd_sim.specs.declared.begin.Beginning.{Beginning}
-use Rattle.gd_sim.specs.Playing.{Gather, senders, segment_at, ends_here, ends_at, TakesAll, WorkStands, IsDone, IsPlaced, Plays, entries_in, nodes_of, IsSim, AllPlay, AllGrow}
+use Rattle.gd_sim.specs.Playing.{Gather, senders, segment_at, ends_here, ends_at, TakesAll, WorkStands, IsDone, IsPlaced, Plays, entries_in, nodes_of, IsSim, AllPlay, Grows, AllGrow}
 use Rattle.gd_sim.specs.Beginning.{ends_of, IsFreshWorker, CanBegin, BegunAt, IsNew, AllBegin}
 use Rattle.gd_sim.specs.Stations.{Goes, AreLawful, TellsOver}
-use Rattle.gd_sim.specs.Run.{IsUnleft}
+use Rattle.gd_sim.specs.Run.{AllLeft, IsUnleft}
 
 -- ---- growth
 
@@ -324,6 +325,7 @@ begun_plays g b old k new placed_at later session_is query_is packet_is senders_
       ends = λ stays. begins.ends_are ∙ same_ends g b was.node.hub.at (segment_at k) session_is query_is senders_are at;
       unleft = λ stays left. let low : g.query ≤ was.node.query = before g.query left in omega (arith, low, less);
       done = λ left. let bad : false ≡ true = sym begun.begins.stays ∙ left in absurd (cc);
+      gone = λ left. let bad : false ≡ true = sym begun.begins.stays ∙ left in absurd (cc);
       work = subst (λ a. WorkStands g a new.worker new.node.entries) at (fresh_work g b was.node.hub.at new.worker new.node.entries packet_is senders_are none begun.begins.worker);
     }
 
@@ -417,3 +419,40 @@ unleft g s play stays =
       within = omega (arith, within, many);
       stays = λ left. (play.each stays.0 stays.1 stays.2).unleft stays.3 (subst (λ h. Contains (left_of h) g.query) (there items stays.0 stays.1 stays.2) left);
     }
+
+-- ---- a query that is left
+
+-- where each station has left the query, each node's history says so
+pub left_each : (g : Gather) (s : Sim) → AllPlay g s → TellsOver s.stations.items true → AllLeft (nodes_of s.stations.items) g.query
+left_each g s play over at within =
+    let items = s.stations.items in
+    let many : length (nodes_of items) ≡ length items = length-map items entries_in in
+    elim (slice_get_cases items at).1 [
+      | inl w ↦ subst (λ h. Contains (left_of h) g.query) (sym (there items at w.0 w.2)) ((play.each at w.0 w.2).gone (over at w.0 w.2))
+      | inr w ↦ absurd (omega (arith, within, many, w.0))
+    ]
+
+-- what was left stays left
+left_more : (other query : ℕ) (h now : List Entry) → Grows other h now → Contains (left_of h) query → Contains (left_of now) query
+left_more other query h now grows left =
+    subst (λ l. Contains (left_of l) query) (sym grows.grown)
+    (subst (λ l. Contains l query) (sym (flat_map-append leaves h grows.more)) (Contains-append_left (left_of h) (left_of grows.more) query left))
+
+pub left_on : (other query : ℕ) (a b : Sim) → AllGrow other a b → AllLeft (nodes_of a.stations.items) query → AllLeft (nodes_of b.stations.items) query
+left_on other query a b grow left at within = by at (grow.each (segment_at at)) within
+  where
+    was : List (List Entry)
+    was = nodes_of a.stations.items
+
+    now : List (List Entry)
+    now = nodes_of b.stations.items
+
+    many : length now ≡ length was
+    many = length-map b.stations.items entries_in ∙ grow.count ∙ sym (length-map a.stations.items entries_in)
+
+    by : (at : ℕ) → Grows other (history_of was (segment_at at)) (history_of now (segment_at at)) → at < length now → Contains (left_of (slice_index_or now at [])) query
+    by zero grows within = left_more other query (slice_index_or was 0 []) (slice_index_or now 0 []) grows (left 0 (omega (arith, within, many)))
+    by (suc n) grows within =
+        let place : n + 1 ≡ suc n = omega arith in
+        subst (λ i. Contains (left_of (slice_index_or now i [])) query) place
+        (left_more other query (slice_index_or was (n + 1) []) (slice_index_or now (n + 1) []) grows (left (n + 1) (omega (arith, within, many))))

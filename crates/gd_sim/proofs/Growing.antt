@@ -305,6 +305,7 @@ quiet_plays g segment s quiet plays = record {
   ends = plays.ends;
   unleft = plays.unleft;
   done = plays.done;
+  gone = plays.gone;
   work = plays.work;
 }
 

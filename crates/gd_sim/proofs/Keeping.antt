@@ -1,7 +1,7 @@
 -- What a station keeps while its history grows.
 use Rattle.std.proofs.Common.{◌≡◌, ℕ, ◌≤◌, ℤ, pos, negsuc, List, [], ◌∷◌, ◌++◌, Bool, true, false, ◌||◌, Result, Ok, Err, OnOk, OnErr, refl, ap, sym, ◌∙◌, subst, append-nil, arith, inl, inr}
 use Rattle.std.specs.List.{AllByRecursion, Contains, list_any, slice_index_or}
-use Rattle.std.proofs.lemmas.List.Elements.{Contains-append_cases}
+use Rattle.std.proofs.lemmas.List.Elements.{Contains-append_cases, Contains-append_right}
 use Rattle.std.specs.declared.alloc.AllocError.{AllocError}
 use Rattle.ic_base.specs.declared.keys.ConnKey.{ConnKey}
 use Rattle.ic_base.specs.declared.datagram.Datagram.{Datagram}
@@ -13,7 +13,7 @@ use Rattle.ic_law.specs.declared.history.TickNo.TheVariants as tick
 use Rattle.ic_law.specs.declared.history.Entry.{Entry}
 use Rattle.ic_law.specs.History.{takes, parcels_of, is_last_parcel, arrives, leaves, left_of, is_halt, halts, IsHaltAsked, IsWhole}
 use Rattle.ic_law.specs.Points.{place_at}
-use Rattle.ic_law.proofs.Lists.{flat_map-append, flat_map-push, list_any-append, Contains-one}
+use Rattle.ic_law.proofs.Lists.{flat_map-append, flat_map-push, list_any-append, Contains-head, Contains-one}
 use Rattle.ic_hub.specs.Hubbing.{Hubbing, place_in}
 use Rattle.ic_hub.specs.Calls.{SamePlace}
 use Rattle.gd_work.specs.Sending.{Scanning, Scans}
@@ -165,6 +165,7 @@ plays_on g segment a b w v quiet left more place query ends grown none_left done
       ends = λ stays. ends ∙ plays.ends stays;
       unleft = λ stays at. plays.unleft stays (subst (λ l. Contains l g.query) lefts at);
       done = λ is. done is (plays.done is);
+      gone = λ is. subst (λ l. Contains l g.query) (sym lefts) (plays.gone is);
       work = work;
     }
 
@@ -192,6 +193,8 @@ plays_left g segment a b w quiet left leaves_it is plays =
       ends = λ stays. absurd (let bad : true ≡ false = stays in cc);
       unleft = λ stays. absurd (let bad : true ≡ false = stays in cc);
       done = λ h. is;
+      gone = λ h. subst (λ l. Contains l g.query) (sym lefts) (Contains-append_right (left_of a.entries) (a.query ∷ []) g.query
+          (subst (λ q. Contains (a.query ∷ []) q) plays.query (Contains-head a.query [])));
       work = subst (λ h. WorkStands g segment w h) (sym leaves_it.entries) (work_on_one g segment w a.entries _ tt plays.work);
     }
 

@@ -33,12 +33,12 @@ use Rattle.gd_sim.specs.declared.station.Worker.TheVariants.{Takes}
 use Rattle.gd_sim.specs.declared.station.Station.{Station}
 use Rattle.gd_sim.specs.declared.sim.Sim.{Sim}
 use Rattle.gd_sim.specs.Feeding.{part_of, parts_of, IsFeed}
-use Rattle.gd_sim.specs.Run.{HasCause, AnswersFeed, IsRun}
+use Rattle.gd_sim.specs.Run.{AllLeft, HasCause, AnswersFeed, IsRun}
 use Rattle.gd_sim.specs.Playing.{Gather, senders, segment_at, entries_in, nodes_of, IsPlaced, IsSim, WasEmitted, AllPlay, AllGrow, Grows, AreRows}
 use Rattle.gd_sim.specs.Stations.{Goes, PlayGoes, CanPlay, HasFault, TellsOver, AreLawful}
 use Rattle.gd_sim.specs.Beginning.{AllBegin, IsNew}
 use Rattle.gd_sim.specs.Runs.{query_fault, AllServe, AllServeBefore, Starts, CanStart, Ran, RanOver, RanInto, Ends, IsOver, AreOver, Stands, GoesOn, EndAll, GivesRows}
-use Rattle.gd_sim.proofs.Ending.{grow_more, grows_past, begin_plays, all_play_queries, gatherer_there, played, unleft, new_is_sim, session_of}
+use Rattle.gd_sim.proofs.Ending.{grow_more, grows_past, begin_plays, all_play_queries, gatherer_there, played, unleft, left_each, left_on, new_is_sim, session_of}
 
 -- ---- one query
 
@@ -150,6 +150,7 @@ over g a b c old new rows goes all_left at same gives set_is network =
       };
       played = subst (λ h. IsPlayed g.session g.query g.settings.packet g.parts h rows) histories
           (subst (λ r. IsPlayed g.session g.query g.settings.packet g.parts (nodes_of b.stations.items) r) (sym (gives t.0 t.1)) (played g b goes.play all_left t.0 old at t.1));
+      left = subst (λ h. AllLeft h g.query) histories (left_each g b goes.play all_left);
     }
 
 -- ---- one query more
@@ -210,6 +211,7 @@ stays session segments settings loaded feeds a b query place rows grow differ is
   feed = is.feed;
   here = is.here;
   played = played_stays session (place + 1) settings.packet (parts_of loaded is.feed) (nodes_of a.stations.items) (nodes_of b.stations.items) rows is.played (grows_past query (place + 1) a b grow differ);
+  left = left_on query (place + 1) a b grow is.left;
 }
 
 -- the answers stay, while the query behind them runs
@@ -258,7 +260,7 @@ one_more session segments settings loaded feeds a b place feed lists rows are ne
     by : (k : ℕ) (r : List (List Value)) → ((slice_get lists k ≡ Some r) ⊎ ((k ≡ length lists) × (rows ≡ r))) → IsOver session settings loaded feeds b k r
     by k r (inl at) = (all_stay session segments settings loaded feeds a b place feed lists are next is.ran).each k r at
     by k r (inr last) = subst (λ x. IsOver session settings loaded feeds b k x) last.1
-        (subst (λ n. IsOver session settings loaded feeds b n rows) (next ∙ sym last.0) (record { feed = feed; here = here; played = is.played }))
+        (subst (λ n. IsOver session settings loaded feeds b n rows) (next ∙ sym last.0) (record { feed = feed; here = here; played = is.played; left = is.left }))
 
 -- the query behind them isn't over
 pub none_more : (session segments rounds : ℕ) (settings : Settings) (loaded : List Spread) (feeds : List Feed) (a b : Sim) (place : ℕ) (feed : Feed) (lists : List (List (List Value))) (fault : FirstNo)
@@ -291,6 +293,7 @@ answers session segments settings loaded feeds s lists checked lawful are place 
       feed = is.feed;
       here = is.here;
       answered = played_is_answered session segments (place + 1) settings (parts_of loaded is.feed) (nodes_of s.stations.items) rows session_is.0 session_is.1 checked.least_packet checked.greatest_packet is.played;
+      left = is.left;
     }
 
 -- a run that ended

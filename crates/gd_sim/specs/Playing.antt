@@ -100,6 +100,8 @@ pub record Plays (g : Gather) (segment : ℤ) (s : Station) : Type 0 where
   pub unleft : s.left ≡ false → Contains (left_of s.node.entries) g.query → ⊥
   -- it leaves only once its worker is done
   pub done : s.left ≡ true → IsDone s.worker
+  -- and its hub let it
+  pub gone : s.left ≡ true → Contains (left_of s.node.entries) g.query
   pub work : WorkStands g segment s.worker s.node.entries
 
 -- ---- all of them

@@ -61,14 +61,19 @@ Ends rounds feeds run (Some refusal) = (length run.rows < length feeds) × HasCa
 
 -- ---- runs
 
--- these rows are the answer of the query of this place, from 0, whose number is one more
+-- every node has left the query
+abbrev pub AllLeft : List (List Entry) → ℕ → Type 0
+AllLeft nodes query = (at : ℕ) → at < length nodes → Contains (left_of (slice_index_or nodes at [])) query
+
+-- These rows are the answer of the query of this place, from 0, whose number is one more; and every node has left it.
 pub record AnswersFeed (session : ℕ) (settings : Settings) (loaded : List Spread) (feeds : List Feed) (nodes : List (List Entry)) (place : ℕ) (rows : List (List Value)) : Type 0 where
   pub feed : Feed
   pub here : slice_get feeds place ≡ Some feed
   pub answered : IsAnswered session (place + 1) settings.packet (parts_of loaded feed) nodes rows
+  pub left : AllLeft nodes (place + 1)
 
 -- A run of queries in a session of so many segments: the histories are those of a session, each query that is over was
--- answered with its rows, and the run ended for its cause.
+-- answered with its rows and left by every node, and the run ended for its cause.
 pub record IsRun (session segments rounds : ℕ) (settings : Settings) (loaded : List Spread) (feeds : List Feed) (run : FirstRun) : Type 0 where
   pub session_is : IsSession session segments settings run.histories
   pub answers : (place : ℕ) (rows : List (List Value)) → slice_get run.rows place ≡ Some rows → AnswersFeed session settings loaded feeds run.histories place rows

@@ -20,7 +20,7 @@ use Rattle.gd_sim.specs.declared.station.Station.{Station}
 use Rattle.gd_sim.specs.declared.sim.Sim.{Sim}
 use Rattle.gd_sim.specs.Feeding.{parts_of}
 use Rattle.gd_sim.specs.Playing.{Gather, senders, IsSim, AllGrow, AreRows, nodes_of}
-use Rattle.gd_sim.specs.Run.{HasCause}
+use Rattle.gd_sim.specs.Run.{AllLeft, HasCause}
 
 -- ---- faults
 
@@ -68,10 +68,11 @@ pub record Ran (g : Gather) (old new : Sim) : Type 0 where
   pub serve : AllServe g.query new.stations.items
   pub grow : AllGrow g.query old new
 
--- and it is over with these rows
+-- and it is over with these rows, and every node has left it
 pub record RanOver (g : Gather) (old new : Sim) (rows : List (List Value)) : Type 0 where
   pub ran : Ran g old new
   pub played : IsPlayed g.session g.query g.settings.packet g.parts (nodes_of new.stations.items) rows
+  pub left : AllLeft (nodes_of new.stations.items) g.query
 
 -- or it isn't, for this cause
 pub record RanInto (rounds : ℕ) (g : Gather) (old new : Sim) (fault : FirstNo) : Type 0 where
@@ -85,11 +86,12 @@ Ends rounds g old new (Err query_no.Memory) = Unit {0}
 
 -- ---- all queries
 
--- the query of this place is over with these rows
+-- the query of this place is over with these rows, and every node has left it
 pub record IsOver (session : ℕ) (settings : Settings) (loaded : List Spread) (feeds : List Feed) (s : Sim) (place : ℕ) (rows : List (List Value)) : Type 0 where
   pub feed : Feed
   pub here : slice_get feeds place ≡ Some feed
   pub played : IsPlayed session (place + 1) settings.packet (parts_of loaded feed) (nodes_of s.stations.items) rows
+  pub left : AllLeft (nodes_of s.stations.items) (place + 1)
 
 -- a session in which the first queries are over with these rows
 pub record AreOver (session segments : ℕ) (settings : Settings) (loaded : List Spread) (feeds : List Feed) (s : Sim) (lists : List (List (List Value))) : Type 0 where

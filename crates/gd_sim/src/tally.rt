@@ -7,11 +7,13 @@ ghost use Rattle.ic_base.specs.Keys.{key_eq};
 ghost use Rattle.ic_law.specs.Packets.{key_of, is_rows, IsSegment};
 ghost use Rattle.ic_law.specs.History.{puts, was_given, takes, parcels_in, parcels_from, rows_in, number_of, chunks_put_of, payloads_of, payload_in, is_last_parcel, rows_emitted_of, sent_upto, greatest, whole_of};
 ghost use Rattle.ic_law.specs.Streams.{history_of};
-ghost use Rattle.gd_sim.specs.Tallying.{IsTallyOf, AreTallies, front_at, ends_by, HasEnded, HaveEnded};
+ghost use Rattle.ic_tally.specs.Counts.{HaveEnded};
+ghost use Rattle.gd_sim.specs.Tallying.{IsTallyOf, AreTallies};
 
 use ic_base::{ConnKey, Datagram, Parcel, SegId};
 use ic_header::{Flags, Header, read};
 use ic_law::{Entry, Histories, HubAsk, HubReply};
+use ic_tally::rows_ended;
 use std::alloc::{AllocError, Global};
 use std::marker::Model;
 
@@ -185,51 +187,12 @@ fn number_in(datagram: &Datagram, key: &ConnKey) -> Option<u32>
 
 // ---- rows in payloads
 
-/// The number of the kind of the chunk at the front of bytes, and the bytes behind it. `None` where the chunk is cut off.
-#[tactic(auto, unfolding(crate::specs::Tallying::front_at))]
-fn next_chunk(bytes: &[u8]) -> Option<(u16, &[u8])>
-    ensures front { option_map (λ found. (found.0, found.1.now)) result ≡ front_at bytes.now }
-    ensures shorter { IfSome result (λ found. length found.1.now < length bytes.now) }
-{
-    let (size, rest) = bytes.split_first_chunk::<2>()?;
-    let (kind, rest) = rest.split_first_chunk::<2>()?;
-    let size = usize::from(u16::from_be_bytes(*size));
-    if rest.len() < size {
-        return None;
-    }
-    let (_, behind) = rest.split_at(size);
-    Some((u16::from_be_bytes(*kind), behind))
-}
-
-/// 1 where a row ends with a chunk of this kind's number.
-fn ends_by(kind: u16) -> usize
-    ensures { result ≡ ends_by kind }
-{
-    match kind {
-        0 | 3 => 1,
-        _ => 0,
-    }
-}
-
-/// How many rows end in a payload.
-fn ended_in(payload: &[u8]) -> usize
-    ensures { HasEnded payload.now result }
-{
-    let mut rest = payload;
-    let mut count = 0;
-    while let Some((kind, behind)) = next_chunk(rest) {
-        count += ends_by(kind);
-        rest = behind;
-    }
-    count
-}
-
 /// How many rows end in the chunk that an entry puts on the connection.
 fn sent_by(entry: &Entry, key: &ConnKey) -> usize
     ensures { HaveEnded (puts key.now entry.now) result }
 {
     match put_on(entry, key) {
-        Some(chunk) => ended_in(chunk),
+        Some(chunk) => rows_ended(chunk),
         None => 0,
     }
 }
@@ -251,7 +214,7 @@ fn taken_by(entry: &Entry, key: &ConnKey) -> (usize, bool)
     ensures last { result.1 ≡ list_any is_last_parcel (takes key.now entry.now) }
 {
     match taken_of(entry, key) {
-        Some(parcel) => (ended_in(parcel.payload.as_slice()), parcel.last),
+        Some(parcel) => (rows_ended(parcel.payload.as_slice()), parcel.last),
         None => (0, false),
     }
 }
