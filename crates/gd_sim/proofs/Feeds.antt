@@ -4,7 +4,6 @@ use Rattle.std.specs.List.{All, AllByRecursion, AllZip, filter, enumerate_from, 
 use Rattle.std.proofs.lemmas.Option.{same_Some}
 use Rattle.std.proofs.lemmas.List.Elements.{All-from_recursion}
 use Rattle.ic_row.specs.declared.value.Kind.{Kind}
-use Rattle.ic_row.specs.declared.value.Value.{Value}
 use Rattle.ic_row.specs.Spelling.{HasLengths}
 use Rattle.pl_tree.specs.declared.schema.Schema.{Schema}
 use Rattle.pl_tree.specs.declared.schema.Placing.{Placing}
@@ -22,10 +21,10 @@ use Rattle.pl_plan.specs.Kept.{IsJudged, given_of}
 use Rattle.pl_rows.specs.declared.loaded.Spread.{Spread}
 use Rattle.pl_rows.specs.Rows.{Line}
 use Rattle.pl_rows.specs.Placed.{rows_at}
-use Rattle.pl_rows.specs.Fitting.{stands_at, placed_at, IsOfKind, IsRowOf, HasTable, Fits}
+use Rattle.pl_rows.specs.Fitting.{stands_at, placed_at, IsOfKind, IsRowOf, Fits}
 use Rattle.gd_sim.specs.declared.feed.Feed.{Feed}
 use Rattle.gd_sim.specs.Feeding.{part_of, IsFeed}
-use Rattle.gd_sim.specs.Plans.{scanned, gathered, is_some, is_gather, senders_of, feed_from, feed_named, feed_of, before, feeds_of, Runs}
+use Rattle.gd_sim.specs.Plans.{scanned, gathered, is_some, is_gather, senders_of, feed_from, feed_named, feed_of, before, feeds_of}
 
 -- ---- lists
 

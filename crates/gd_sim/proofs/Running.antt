@@ -1,19 +1,16 @@
 -- Queries, one behind the other.
-use Rattle.std.proofs.Common.{◌≡◌, ◌≢◌, ℕ, zero, suc, ◌+◌, ◌<◌, ◌≤◌, ℤ, pos, List, [], ◌∷◌, ◌++◌, length, map, get_or, set, Bool, true, false, Option, Some, None, Result, Ok, Err, slice_get, slice_index_or, Contains, option_map, refl, ap, sym, subst, ◌∙◌, arith, inl, inr, ◌⊎◌, length-append}
+use Rattle.std.proofs.Common.{◌≡◌, ◌≢◌, ℕ, zero, suc, ◌+◌, ◌<◌, ◌≤◌, ℤ, List, [], ◌∷◌, ◌++◌, length, map, set, true, false, Option, Some, None, Result, Ok, Err, slice_get, Contains, option_map, refl, ap, sym, subst, ◌∙◌, arith, inl, inr, ◌⊎◌, length-append}
 use Rattle.std.proofs.lemmas.List.{length-map}
-use Rattle.std.proofs.lemmas.Option.{slice_get-map, slice_get_within, slice_get_past, slice_get-get_or, get_or_from_slice_get}
+use Rattle.std.proofs.lemmas.Option.{slice_get-map, slice_get_within, get_or_from_slice_get}
 use Rattle.std.proofs.lemmas.List.FromFn.{length-map-range_with_len, get_or-map-range_with_len}
 use Rattle.std.proofs.Math.Seq.{map-set_same}
-use Rattle.std.specs.List.{All, AllByRecursion, range_with_len}
+use Rattle.std.specs.List.{AllByRecursion}
 use Rattle.ic_base.specs.declared.settings.Settings.{Settings}
 use Rattle.ic_base.specs.Settings.{AreChecked}
 use Rattle.ic_row.specs.declared.value.Value.{Value}
-use Rattle.ic_row.specs.Spelling.{HasLengths}
-use Rattle.ic_law.specs.declared.history.Entry.{Entry}
 use Rattle.pl_rows.specs.declared.loaded.Spread.{Spread}
 use Rattle.pl_rows.specs.Placed.{rows_at}
-use Rattle.gd_work.specs.Taking.{Gathering}
-use Rattle.gd_law.specs.Playing.{IsPlayed, AllGrowPast}
+use Rattle.gd_law.specs.Playing.{IsPlayed}
 use Rattle.gd_law.proofs.Staying.{played_stays}
 use Rattle.gd_law.proofs.Answered.{played_is_answered}
 use Rattle.ic_law.specs.Points.{place_at}
@@ -27,17 +24,15 @@ use Rattle.gd_sim.specs.declared.begin.Beginning.{Beginning}
 use Rattle.std.specs.Result.{is_err, OnOk, IsErrAnd}
 use Rattle.gd_sim.specs.declared.run.QueryNo.{QueryNo}
 use Rattle.gd_sim.specs.declared.run.FirstNo.{FirstNo}
-use Rattle.gd_sim.specs.declared.run.FirstNo.TheVariants.{Unfinished, Spent, TooLong}
-use Rattle.gd_sim.specs.declared.station.Worker.{Worker}
-use Rattle.gd_sim.specs.declared.station.Worker.TheVariants.{Takes}
+use Rattle.gd_sim.specs.declared.run.FirstNo.TheVariants.{Unfinished}
 use Rattle.gd_sim.specs.declared.station.Station.{Station}
 use Rattle.gd_sim.specs.declared.sim.Sim.{Sim}
 use Rattle.gd_sim.specs.Feeding.{part_of, parts_of, IsFeed}
 use Rattle.gd_sim.specs.Run.{AllLeft, HasCause, AnswersFeed, IsRun}
-use Rattle.gd_sim.specs.Playing.{Gather, senders, segment_at, entries_in, nodes_of, IsPlaced, IsSim, WasEmitted, AllPlay, AllGrow, Grows, AreRows}
+use Rattle.gd_sim.specs.Playing.{Gather, segment_at, nodes_of, IsSim, WasEmitted, AllGrow, Grows, AreRows}
 use Rattle.gd_sim.specs.Stations.{Goes, PlayGoes, CanPlay, HasFault, TellsOver, AreLawful}
 use Rattle.gd_sim.specs.Beginning.{AllBegin, IsNew}
-use Rattle.gd_sim.specs.Runs.{query_fault, AllServe, AllServeBefore, Starts, CanStart, Ran, RanOver, RanInto, Ends, IsOver, AreOver, Stands, GoesOn, EndAll, GivesRows}
+use Rattle.gd_sim.specs.Runs.{query_fault, Starts, CanStart, Ran, RanOver, RanInto, Ends, IsOver, AreOver, Stands, GoesOn, EndAll, GivesRows}
 use Rattle.gd_sim.proofs.Ending.{grow_more, grows_past, begin_plays, all_play_queries, gatherer_there, played, unleft, left_each, left_on, new_is_sim, session_of}
 
 -- ---- one query

@@ -1,10 +1,10 @@
 -- Steps behind each other.
-use Rattle.std.proofs.Common.{◌≡◌, ℕ, ◌<◌, ℤ, List, length, true}
+use Rattle.std.proofs.Common.{◌≡◌, ℤ, List, true}
 use Rattle.ic_row.specs.declared.value.Value.{Value}
 use Rattle.gd_node.specs.Noding.{IsLawful}
 use Rattle.gd_sim.specs.declared.station.Station.{Station}
 use Rattle.gd_sim.specs.declared.sim.Sim.{Sim}
-use Rattle.gd_sim.specs.Playing.{Gather, AllPlay, AllGrow, AreRows}
+use Rattle.gd_sim.specs.Playing.{Gather, AllPlay}
 use Rattle.gd_sim.specs.Stations.{Goes, AllGoes, PlayGoes, CanPlay}
 use Rattle.gd_sim.proofs.Ending.{grow_none, grow_more}
 

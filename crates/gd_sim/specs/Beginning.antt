@@ -1,14 +1,12 @@
 -- What begins of a query at each station, and a session before its first query.
-use Rattle.std.specs.Prelude.{◌≡◌, ℕ, ◌+◌, ◌<◌, ◌≤◌, ℤ, pos, negsuc, List, [], length, Bool, false, Some, slice_get}
+use Rattle.std.specs.Prelude.{◌≡◌, ℕ, ◌+◌, ◌<◌, ◌≤◌, ℤ, pos, negsuc, List, [], length, false, Some, slice_get}
 use Rattle.ic_base.specs.declared.keys.ConnEnd.{ConnEnd}
 use Rattle.ic_base.specs.declared.settings.Settings.{Settings}
 use Rattle.ic_row.specs.declared.value.Value.{Value}
-use Rattle.gd_net.specs.Network.{Net}
 use Rattle.gd_net.specs.Network.{fresh as fresh_net}
 use Rattle.gd_work.specs.declared.course.Course.TheVariants.{Going}
 use Rattle.gd_work.specs.Sending.{Scanning, Scans}
 use Rattle.gd_work.specs.Taking.{Gathering, Gathers}
-use Rattle.gd_node.specs.Noding.{Noding}
 use Rattle.gd_node.specs.Noding.{fresh as fresh_node}
 use Rattle.gd_node.specs.Calls.{Begins}
 use Rattle.gd_sim.specs.declared.station.Worker.{Worker}

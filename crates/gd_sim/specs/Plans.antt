@@ -4,7 +4,7 @@ use Rattle.ic_base.specs.declared.settings.Settings.{Settings}
 use Rattle.pl_tree.specs.declared.schema.Schema.{Schema}
 use Rattle.pl_tree.specs.declared.schema.Placing.{Placing}
 use Rattle.pl_tree.specs.declared.schema.Placing.TheVariants.{Keyed, Dealt, Everywhere}
-use Rattle.pl_tree.specs.Trees.{Tree, Scan, Filter, Project, Limit, Sort, Join, Single, Partial, Final, Gather, Redistribute, Broadcast, tree_in}
+use Rattle.pl_tree.specs.Trees.{Tree, Scan, Gather, tree_in}
 use Rattle.pl_tree.specs.Columns.{same_text}
 use Rattle.pl_plan.specs.declared.sound.Judged.{Judged}
 use Rattle.pl_rows.specs.declared.loaded.Spread.{Spread}

@@ -1,5 +1,5 @@
 -- What stands of the stations of a session, and of their network, while a query plays.
-use Rattle.std.specs.Prelude.{◌≡◌, ◌⊎◌, ℕ, zero, suc, ◌+◌, ◌<◌, ◌≤◌, nat_lt, ℤ, pos, negsuc, List, [], ◌∷◌, ◌++◌, length, map, Bool, true, false, if◌then◌else◌, Any, Some, Contains, slice_get, slice_index_or}
+use Rattle.std.specs.Prelude.{◌≡◌, ℕ, zero, suc, ◌+◌, ◌<◌, ◌≤◌, nat_lt, ℤ, pos, negsuc, List, [], ◌∷◌, ◌++◌, length, map, true, false, if◌then◌else◌, Some, Contains, slice_get, slice_index_or}
 use Rattle.std.specs.List.{All, AllByRecursion, range_with_len}
 use Rattle.ic_base.specs.declared.keys.ConnKey.{ConnKey}
 use Rattle.ic_base.specs.declared.keys.ConnEnd.{ConnEnd}
@@ -16,7 +16,7 @@ use Rattle.gd_work.specs.declared.course.Course.TheVariants.{Done}
 use Rattle.gd_work.specs.Sending.{Scanning, Scans}
 use Rattle.gd_work.specs.Taking.{Gathering, Gathers, parcels_of}
 use Rattle.gd_log.specs.Logs.{log_of, IsOf}
-use Rattle.gd_node.specs.Noding.{Noding, place_of}
+use Rattle.gd_node.specs.Noding.{place_of}
 use Rattle.gd_law.specs.Answers.{gather_key, gather_end}
 use Rattle.gd_law.specs.Playing.{IsFromOne}
 use Rattle.gd_sim.specs.declared.station.Worker.{Worker}

@@ -1,9 +1,8 @@
 -- How the queries of a session go, one behind the other.
-use Rattle.std.specs.Prelude.{◌≡◌, ℕ, ◌+◌, ◌<◌, ◌≤◌, ℤ, List, [], ◌∷◌, ◌++◌, length, Option, Some, None, Result, Ok, Err, slice_get}
+use Rattle.std.specs.Prelude.{◌≡◌, ℕ, ◌+◌, ◌<◌, ◌≤◌, ℤ, List, length, Option, Some, None, Result, Ok, Err, slice_get}
 use Rattle.ic_base.specs.declared.settings.Settings.{Settings}
 use Rattle.ic_row.specs.declared.value.Value.{Value}
 use Rattle.pl_rows.specs.declared.loaded.Spread.{Spread}
-use Rattle.pl_rows.specs.Placed.{rows_at}
 use Rattle.gd_work.specs.Taking.{Gathering}
 use Rattle.gd_law.specs.Playing.{IsPlayed}
 use Rattle.gd_sim.specs.declared.begin.Beginning.{Beginning}
@@ -11,7 +10,7 @@ use Rattle.gd_sim.specs.declared.fault.SimNo.{SimNo}
 use Rattle.gd_sim.specs.declared.fault.SimNo.TheVariants as sim
 use Rattle.gd_sim.specs.declared.feed.Feed.{Feed}
 use Rattle.gd_sim.specs.declared.run.FirstNo.{FirstNo}
-use Rattle.gd_sim.specs.declared.run.FirstNo.TheVariants.{Unfinished, Spent, TooLong}
+use Rattle.gd_sim.specs.declared.run.FirstNo.TheVariants.{Spent, TooLong}
 use Rattle.gd_sim.specs.declared.run.QueryNo.{QueryNo}
 use Rattle.gd_sim.specs.declared.run.QueryNo.TheVariants as query_no
 use Rattle.gd_sim.specs.declared.station.Worker.{Worker}

@@ -1,5 +1,5 @@
 -- What each call makes of a station, and of all of them.
-use Rattle.std.specs.Prelude.{◌≡◌, ◌⊎◌, ℕ, ◌+◌, ◌<◌, ◌≤◌, ℤ, pos, negsuc, List, [], ◌∷◌, ◌++◌, length, Bool, true, false, Result, Ok, Err, Some, Contains, slice_get, slice_index_or}
+use Rattle.std.specs.Prelude.{◌≡◌, ◌⊎◌, ℕ, ◌<◌, ℤ, pos, negsuc, List, [], ◌∷◌, ◌++◌, Bool, true, false, Err, Some, Contains, slice_get, slice_index_or}
 use Rattle.std.specs.List.{All}
 use Rattle.ic_base.specs.declared.keys.ConnKey.{ConnKey}
 use Rattle.ic_base.specs.declared.datagram.Datagram.{Datagram}
@@ -13,8 +13,6 @@ use Rattle.ic_law.specs.declared.history.TickNo.TheVariants as tick
 use Rattle.ic_law.specs.declared.history.Entry.{Entry}
 use Rattle.ic_law.specs.History.{emitted_of, arrived_of}
 use Rattle.gd_net.specs.Network.{Net}
-use Rattle.gd_work.specs.declared.course.Course.{Course}
-use Rattle.gd_work.specs.declared.course.Course.TheVariants.{Done}
 use Rattle.gd_work.specs.declared.course.WorkNo.{WorkNo}
 use Rattle.gd_work.specs.declared.course.WorkNo.TheVariants as work
 use Rattle.gd_work.specs.Sending.{Scanning}
@@ -22,11 +20,9 @@ use Rattle.gd_work.specs.Taking.{Gathering}
 use Rattle.gd_node.specs.Noding.{Noding, IsLawful}
 use Rattle.gd_sim.specs.declared.fault.SimNo.{SimNo}
 use Rattle.gd_sim.specs.declared.fault.SimNo.TheVariants as sim
-use Rattle.gd_sim.specs.declared.station.Worker.{Worker}
-use Rattle.gd_sim.specs.declared.station.Worker.TheVariants.{Rests, Sends, Takes}
 use Rattle.gd_sim.specs.declared.station.Station.{Station}
 use Rattle.gd_sim.specs.declared.sim.Sim.{Sim}
-use Rattle.gd_sim.specs.Playing.{Gather, senders, segment_at, ends_at, SendsPart, TakesAll, Plays, AllPlay, AreRows, AllGrow, GrowsOwn, Grows, nodes_of}
+use Rattle.gd_sim.specs.Playing.{Gather, senders, ends_at, SendsPart, TakesAll, Plays, AllPlay, AreRows, AllGrow, GrowsOwn, Grows}
 use Rattle.gd_sim.specs.Run.{IsLast, PutsOn, IsUsedUp}
 
 -- ---- refusals

@@ -1,12 +1,11 @@
 -- What a hub finds of a connection.
-use Rattle.std.proofs.Common.{◌≡◌, ◌≢◌, ◌<◌, ℕ, List, length, Bool, true, false, cond, ◌==◌, position, slice_get, get_or, Option, Some, None, refl, ap, sym, ◌∙◌, subst}
+use Rattle.std.proofs.Common.{◌≡◌, ℕ, List, Bool, true, false, cond, ◌==◌, position, slice_get, get_or, Option, Some, None, refl, ap, sym, ◌∙◌, subst}
 use Rattle.std.specs.List.{Contains}
-use Rattle.std.proofs.lemmas.Option.{slice_get_within, get_or_from_slice_get}
+use Rattle.std.proofs.lemmas.Option.{get_or_from_slice_get}
 use Rattle.std.proofs.lemmas.Bool.Decides.{Decides-eqb}
 use Rattle.ic_base.specs.Keys.{key_eq}
 use Rattle.ic_base.specs.declared.keys.ConnKey.{ConnKey}
 use Rattle.ic_base.specs.declared.keys.ConnEnd.{ConnEnd}
-use Rattle.ic_conntab.specs.declared.answer.Find.{Find}
 use Rattle.ic_conntab.specs.declared.answer.Find.TheVariants.{Foreign, Here, Ended, NotBegun}
 use Rattle.ic_conntab.specs.Table.{Table, is_past, found, placed}
 use Rattle.ic_places.specs.Ends.{keys_of, sender_at, receiver_at}
@@ -17,7 +16,7 @@ use Rattle.ic_receiver.specs.Receiving.{Receiving}
 use Rattle.ic_hub.specs.declared.finding.Found.{Found}
 use Rattle.ic_hub.specs.declared.finding.Found.TheVariants as says
 use Rattle.ic_hub.specs.Hubbing.{Hubbing, Living, IsHub}
-use Rattle.ic_hub.specs.Finding.{IsNotLive, IsFound, OfOther, NoSuchKey, OfEnded, OfUnbegun, There, SenderIs, ReceiverIs, HasNo}
+use Rattle.ic_hub.specs.Finding.{IsFound, OfOther, NoSuchKey, OfEnded, OfUnbegun, There, SenderIs, ReceiverIs, HasNo}
 use Rattle.ic_hub.proofs.Places.{Shaped, at_contains, at_map}
 use Rattle.ic_hub.proofs.Shape.{apart_at}
 use Rattle.ic_hub.proofs.Found.{Tells, OfLive, OfNone, tells, key_at, no_key, position_none, position_some}

@@ -1,22 +1,21 @@
 -- What the table says of a connection is what the live queries say.
-use Rattle.std.proofs.Common.{◌≡◌, ◌≢◌, ◌<◌, ℕ, zero, suc, List, [], ◌∷◌, length, Bool, true, false, cond, ◌==◌, position, slice_get, get_or, ◌+◌, Option, Some, None, refl, ap, sym, ◌∙◌, subst, inl, inr, ◌⊎◌}
+use Rattle.std.proofs.Common.{◌≡◌, ◌≢◌, ℕ, zero, suc, List, [], ◌∷◌, Bool, true, false, cond, ◌==◌, position, slice_get, get_or, ◌+◌, Option, Some, None, refl, ap, sym, ◌∙◌}
 use Rattle.std.specs.List.{Contains, position_from}
 use Rattle.std.specs.FinMap.{get}
 use Rattle.std.proofs.lemmas.Bool.Decides.{Decides-eqb}
-use Rattle.std.proofs.lemmas.Option.{slice_get_within, slice_get-get_or}
+use Rattle.std.proofs.lemmas.Option.{slice_get-get_or}
 use Rattle.std.proofs.lemmas.List.Quantifiers.{position-Some}
 use Rattle.std.proofs.lemmas.Iterator.Adapters.{position_from-zero}
 use Rattle.ic_base.specs.Keys.{key_eq}
 use Rattle.ic_base.specs.declared.keys.ConnKey.{ConnKey}
 use Rattle.ic_base.proofs.SameKeys.{key_eq-same, key_eq-tells}
 use Rattle.ic_conntab.specs.declared.answer.Find.{Find}
-use Rattle.ic_conntab.specs.declared.answer.Find.TheVariants.{Foreign, Here, Ended, NotBegun}
+use Rattle.ic_conntab.specs.declared.answer.Find.TheVariants.{Foreign, Ended, NotBegun}
 use Rattle.ic_conntab.specs.Table.{Table, is_past, found, found_in, placed}
 use Rattle.ic_places.specs.Ends.{keys_of}
 use Rattle.ic_hub.specs.Hubbing.{Hubbing, Living, keys_in, IsHub}
 use Rattle.ic_hub.specs.Finding.{IsNotLive}
-use Rattle.ic_hub.proofs.Places.{at_contains, contains_at}
-use Rattle.ic_hub.proofs.Shape.{apart_at}
+use Rattle.ic_hub.proofs.Places.{contains_at}
 
 -- ---- places
 

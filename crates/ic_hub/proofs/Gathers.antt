@@ -1,12 +1,10 @@
 -- Asks that tests make: one end that sends, two that receive, and the chunk of a row.
-use Rattle.std.proofs.Common.{◌≡◌, ◌≢◌, ◌<◌, ◌≤◌, ◌+◌, ℕ, zero, suc, List, [], ◌∷◌, ◌++◌, length, Bool, true, false, Option, Some, None, refl, ap, sym, ◌∙◌, subst, arith, slice_get, position, ◌==◌, ℤ, pos, negsuc, int_eq, true≢false}
+use Rattle.std.proofs.Common.{◌≡◌, ◌≢◌, ◌≤◌, ℕ, List, [], ◌∷◌, ◌++◌, false, Some, refl, ap, sym, ◌∙◌, arith, position, ◌==◌, ℤ, pos, negsuc, int_eq, true≢false}
 use Rattle.std.specs.List.{Contains}
 use Rattle.std.proofs.lemmas.Bool.Decides.{Decides-eqb, Decides-int_eq}
 use Rattle.ic_base.specs.declared.keys.ConnEnd.{ConnEnd}
-use Rattle.ic_base.specs.declared.keys.ConnKey.{ConnKey}
-use Rattle.ic_chunk.specs.declared.chunk.ChunkKind.{ChunkKind}
 use Rattle.ic_chunk.specs.declared.chunk.ChunkKind.TheVariants.{Whole, EndOfStream}
-use Rattle.ic_chunk.specs.Chunks.{Chunk, IsChunk, chunk_of, spelled}
+use Rattle.ic_chunk.specs.Chunks.{chunk_of, spelled}
 use Rattle.ic_law.specs.Points.{Place}
 use Rattle.ic_law.specs.Asking.{IsEndHere, AreEnds, IsPuttable}
 use Rattle.ic_hub.specs.Hubbing.{Hubbing, Living}

@@ -1,21 +1,20 @@
 -- A hub stands on with an entry about one end, where that end's connection does.
-use Rattle.std.proofs.Common.{◌≡◌, ◌≢◌, ◌↔◌, ℕ, zero, suc, ◌+◌, ℤ, List, [], ◌∷◌, ◌++◌, set, map, Bool, true, false, ◌==◌, Option, Some, None, Result, Ok, refl, ap, sym, ◌∙◌, subst, arith, inl, inr, ◌⊎◌, slice_get, min, cond, ◌&&◌, length}
+use Rattle.std.proofs.Common.{◌≡◌, ◌≢◌, ℕ, zero, suc, ℤ, List, [], ◌∷◌, ◌++◌, set, map, Bool, true, false, ◌==◌, Option, Some, None, Ok, refl, ap, sym, ◌∙◌, subst, arith, inl, inr, ◌⊎◌, slice_get, cond, ◌&&◌, length}
 use Rattle.std.specs.List.{AllByRecursion, Contains}
 use Rattle.std.proofs.lemmas.Bool.Decides.{Decides-eqb, Decides-int_eq}
 use Rattle.ic_base.specs.declared.keys.ConnKey.{ConnKey}
 use Rattle.ic_base.specs.declared.keys.ConnEnd.{ConnEnd}
 use Rattle.ic_base.specs.declared.settings.Settings.{Settings}
 use Rattle.ic_base.specs.declared.datagram.Datagram.{Datagram}
-use Rattle.ic_base.specs.declared.datagram.Parcel.{Parcel}
-use Rattle.ic_law.specs.declared.history.HubAsk.TheVariants.{Begin, Put, Finish, Take, TakeFrom, Halt, Arrive, Clear, Leave}
+use Rattle.ic_law.specs.declared.history.HubAsk.TheVariants.{Begin, Put, Finish, Take, TakeFrom, Halt, Arrive, Clear}
 use Rattle.ic_law.specs.declared.history.HubReply.TheVariants.{Took, Memory}
 use Rattle.ic_law.specs.declared.history.Entry.{Entry}
 use Rattle.ic_law.specs.History.{emits, was_begun, leaves, left_by, left_of, takes, parcel_for, parcels_from}
-use Rattle.ic_law.specs.Points.{Place, place_at, IsFormed, IsLive, IsHere}
+use Rattle.ic_law.specs.Points.{Place, place_at, IsFormed}
 use Rattle.ic_law.specs.Asking.{IsAllowed}
 use Rattle.ic_law.specs.declared.history.HubAsk.{HubAsk}
 use Rattle.ic_law.proofs.Lists.{Contains-none}
-use Rattle.ic_law.specs.Arriving.{IsUnknownKey, IsServed, LastServed, IsGreatestLeft, AnswersTakeAny}
+use Rattle.ic_law.specs.Arriving.{IsUnknownKey, IsServed, LastServed, AnswersTakeAny}
 use Rattle.ic_law.specs.Emission.{clock_of}
 use Rattle.ic_law.specs.Hub.{HubPoint}
 use Rattle.ic_law.specs.Receiving.{Receives}
@@ -27,11 +26,10 @@ use Rattle.ic_sender.specs.Standing.{KeepsSending}
 use Rattle.ic_outgoing.specs.Outgoing.{OutgoingState, SameEnd}
 use Rattle.ic_outgoing.specs.Standing.{Stands as SenderStands}
 use Rattle.ic_outgoing.proofs.Silence.{others_pass}
-use Rattle.ic_sender.specs.Entries.{IsSilent}
 use Rattle.ic_sender.proofs.Passing.{clock_stays}
 use Rattle.ic_ends.specs.Entries.{IsOurs, HasEnd, EndsKeep, AsksOf, OfPut, OfFinish, OfTakeFrom, OfHalt, OfTake, OfArrive, Concerns, IsNought, NoMemory}
 use Rattle.ic_ends.specs.Living.{BeginsNone, LivesOn}
-use Rattle.ic_ends.specs.Laws.{IsAbout, AboutEnd, AboutNone, Holds, Goes}
+use Rattle.ic_ends.specs.Laws.{IsAbout, AboutEnd, AboutNone, Goes}
 use Rattle.ic_ends.proofs.Concerned.{still_then, concerned_passes}
 use Rattle.ic_ends.proofs.Lives.{lives_on}
 use Rattle.ic_ends.proofs.Ahead.{ahead_goes_on}
@@ -45,7 +43,7 @@ use Rattle.ic_hub.specs.Hubbing.{Hubbing, Living, IsLiving, IsOfHub, place_in}
 use Rattle.ic_hub.specs.Standing.{LivingStands, IsTop, IsAmong, Stands}
 use Rattle.ic_hub.specs.Calls.{SamePlace}
 use Rattle.ic_hub.specs.Finding.{HasNo}
-use Rattle.ic_hub.proofs.Places.{Shaped, SenderOf, ReceiverOf, sender_of, receiver_of, end_of_sender, end_of_receiver, number_of, one_sender, one_receiver, all_at, contains_at}
+use Rattle.ic_hub.proofs.Places.{Shaped, sender_of, receiver_of, end_of_sender, end_of_receiver, number_of, one_sender, one_receiver, all_at, contains_at}
 
 -- ---- lists
 

@@ -1,19 +1,16 @@
 -- Where the ends of a hub stand, and which of them are here.
-use Rattle.std.proofs.Common.{◌≡◌, ◌≢◌, ℕ, zero, suc, ◌<◌, ◌+◌, List, [], ◌∷◌, ◌++◌, set, map, length, Bool, true, false, ◌==◌, Option, Some, None, refl, ap, sym, ◌∙◌, subst, arith, inl, inr, ◌⊎◌, slice_get, get_or, filter, cond, not}
+use Rattle.std.proofs.Common.{◌≡◌, ℕ, zero, suc, ◌<◌, List, [], ◌∷◌, ◌++◌, map, Bool, true, false, Some, None, refl, ap, sym, ◌∙◌, subst, arith, inl, inr, ◌⊎◌, slice_get, filter, cond, not}
 use Rattle.std.specs.List.{AllByRecursion, Contains}
 use Rattle.std.proofs.lemmas.Option.{slice_get_within, slice_get-get_or, get_or_from_slice_get}
 use Rattle.ic_base.specs.declared.keys.ConnEnd.{ConnEnd}
 use Rattle.ic_base.specs.declared.keys.ConnKey.{ConnKey}
-use Rattle.ic_law.specs.declared.history.Entry.{Entry}
-use Rattle.ic_law.specs.Points.{Place, IsLive, IsHere}
+use Rattle.ic_law.specs.Points.{Place}
 use Rattle.ic_law.specs.Asking.{AreEnds}
 use Rattle.ic_places.specs.Ends.{sending_ends, receiving_ends}
 use Rattle.ic_places.proofs.Named.{ends_have_their_sides}
 use Rattle.ic_receiver.specs.Receiving.{Receiving}
 use Rattle.ic_outgoing.specs.Outgoing.{OutgoingState}
-use Rattle.ic_ends.specs.Entries.{IsOurs}
 use Rattle.ic_hub.specs.Hubbing.{Hubbing, Living, IsLiving, IsOfHub, place_in}
-use Rattle.ic_hub.specs.Standing.{IsAmong, Stands}
 
 -- ---- lists
 

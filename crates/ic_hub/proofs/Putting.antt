@@ -1,5 +1,5 @@
 -- A hub stands on with a put, or the end of stream, on one of its connections.
-use Rattle.std.proofs.Common.{◌≡◌, ◌≢◌, ◌<◌, ◌≤◌, ◌+◌, ℕ, ℤ, List, [], ◌∷◌, ◌++◌, set, length, Bool, true, false, Option, Some, None, Result, Ok, Err, refl, ap, sym, ◌∙◌, subst, inl, inr, ◌⊎◌, slice_get, get_or, arith}
+use Rattle.std.proofs.Common.{◌≡◌, ◌≢◌, ◌<◌, ◌≤◌, ◌+◌, ℕ, List, [], ◌∷◌, ◌++◌, set, length, Bool, true, false, Option, Some, None, Result, Ok, Err, refl, ap, sym, ◌∙◌, subst, inl, inr, slice_get, get_or, arith}
 use Rattle.std.specs.Prelude.{IfOk, OnErr}
 use Rattle.std.specs.List.{Contains, AllByRecursion}
 use Rattle.std.proofs.lemmas.Option.{slice_get-get_or}
@@ -9,13 +9,12 @@ use Rattle.ic_base.specs.declared.datagram.Datagram.{Datagram}
 use Rattle.ic_base.specs.declared.settings.Settings.{Settings}
 use Rattle.ic_chunk.proofs.ReadingLemmas.{length-spelled}
 use Rattle.ic_law.specs.declared.history.HubAsk.{HubAsk}
-use Rattle.ic_law.specs.declared.history.HubAsk.TheVariants.{Begin, Put, Finish, Clear, Leave}
-use Rattle.ic_law.specs.declared.history.HubReply.{HubReply}
-use Rattle.ic_law.specs.declared.history.HubReply.TheVariants.{Gave, Memory}
+use Rattle.ic_law.specs.declared.history.HubAsk.TheVariants.{Begin, Put, Finish, Clear}
+use Rattle.ic_law.specs.declared.history.HubReply.TheVariants.{Memory}
 use Rattle.ic_law.specs.declared.history.HubNo.{HubNo}
 use Rattle.ic_law.specs.declared.history.HubNo.TheVariants as no
 use Rattle.ic_law.specs.declared.history.Entry.{Entry}
-use Rattle.ic_law.specs.History.{datagrams_of, emits, leaves, finished_of}
+use Rattle.ic_law.specs.History.{datagrams_of}
 use Rattle.ic_law.specs.Packets.{key_of, IsSegment}
 use Rattle.ic_law.specs.Points.{Place, IsDirected, IsFormed}
 use Rattle.ic_law.specs.Asking.{IsPuttable, IsAllowed, GoesOn}
@@ -29,13 +28,13 @@ use Rattle.ic_sender.specs.Entries.{IsPutting, IsFinishing}
 use Rattle.ic_sender.specs.Entries.{gave_of as gave}
 use Rattle.ic_outgoing.specs.Outgoing.{OutgoingState, SameEnd}
 use Rattle.ic_outgoing.specs.Emitted.{IsOutgoingOf, AreOutgoing}
-use Rattle.ic_outgoing.specs.Standing.{Stands as SenderStands, StandsNext}
-use Rattle.ic_ends.specs.Entries.{IsPacketOf, IsOurs, AsksOf, OfPut, OfFinish, Concerns, UnknownPut, UnknownFinish}
-use Rattle.ic_hub.specs.Hubbing.{Hubbing, Living, IsLiving, IsOfHub, place_in}
+use Rattle.ic_outgoing.specs.Standing.{Stands as SenderStands}
+use Rattle.ic_ends.specs.Entries.{IsPacketOf, IsOurs, AsksOf, OfPut, OfFinish, UnknownPut, UnknownFinish}
+use Rattle.ic_hub.specs.Hubbing.{Hubbing, Living, IsOfHub, place_in}
 use Rattle.ic_hub.specs.Entries.{gave_of, put_entry, finish_entry}
 use Rattle.ic_hub.specs.Finding.{HasNo, SenderIs, FindsSender}
-use Rattle.ic_hub.specs.Standing.{LivingStands, Stands}
-use Rattle.ic_hub.specs.Calls.{put_answer, put_no, FitsAll, MovesSender, PutsOn, Behind, Answered}
+use Rattle.ic_hub.specs.Standing.{Stands}
+use Rattle.ic_hub.specs.Calls.{put_answer, FitsAll, PutsOn, Behind, Answered}
 use Rattle.ic_hub.proofs.Places.{Shaped, all_at, contains_at, end_of_sender}
 use Rattle.ic_hub.proofs.Moving.{with_query, with_sender, sender_keeps, sender_moved, nought_stands, memory_stands, unknown_key, set_same}
 

@@ -1,5 +1,5 @@
 -- What is always true of a hub, where one query is replaced.
-use Rattle.std.proofs.Common.{◌≡◌, ◌<◌, ℕ, zero, suc, List, [], ◌∷◌, set, cond, ◌==◌, Option, Some, None, refl, ap, sym, ◌∙◌, subst, arith, inl, inr, ◌⊎◌, slice_get}
+use Rattle.std.proofs.Common.{◌≡◌, ◌<◌, ℕ, zero, suc, List, [], ◌∷◌, set, cond, ◌==◌, Some, None, refl, ap, sym, ◌∙◌, subst, arith, inl, inr, slice_get}
 use Rattle.std.specs.List.{AllByRecursion}
 use Rattle.ic_conntab.specs.Table.{Table}
 use Rattle.ic_places.specs.Ends.{keys_of}

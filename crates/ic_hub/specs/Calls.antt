@@ -1,9 +1,8 @@
 -- What each call does to a hub, and to a live query.
-use Rattle.std.specs.Prelude.{◌≡◌, ℕ, ◌+◌, ◌-◌, ◌^◌, ◌≤◌, min, ℤ, List, [], ◌∷◌, true, false, Option, Some, None, Result, Ok, Err, slice_get, slice_set, IfOk, OnErr}
+use Rattle.std.specs.Prelude.{◌≡◌, ℕ, ◌+◌, ◌-◌, ◌^◌, ◌≤◌, min, List, true, false, Some, Result, Ok, Err, slice_get, slice_set, IfOk, OnErr}
 use Rattle.std.specs.List.{AllByRecursion}
 use Rattle.ic_base.specs.declared.keys.ConnKey.{ConnKey}
 use Rattle.ic_base.specs.declared.datagram.Datagram.{Datagram}
-use Rattle.ic_base.specs.declared.datagram.Parcel.{Parcel}
 use Rattle.ic_law.specs.declared.history.Entry.{Entry}
 use Rattle.ic_law.specs.declared.history.HubNo.{HubNo}
 use Rattle.ic_law.specs.declared.history.HubNo.TheVariants as no

@@ -1,5 +1,5 @@
 -- The histories that a hub stands for.
-use Rattle.std.specs.Prelude.{◌≡◌, ◌↔◌, ℕ, ℤ, List, [], ◌++◌, Option, Some, None, slice_get}
+use Rattle.std.specs.Prelude.{◌≡◌, ◌↔◌, ℕ, ℤ, List, [], Option, Some, None, slice_get}
 use Rattle.ic_base.specs.declared.keys.ConnEnd.{ConnEnd}
 use Rattle.ic_base.specs.declared.settings.Settings.{Settings}
 use Rattle.ic_law.specs.declared.history.Entry.{Entry}

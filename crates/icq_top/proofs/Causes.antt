@@ -1,9 +1,9 @@
 -- Why a status is answered, and what is handed back with it.
-use Rattle.std.proofs.Common.{◌≡◌, ◌≢◌, ◌⊎◌, ℕ, ◌+◌, ◌<◌, ◌≤◌, List, [], ◌++◌, length, map, Option, Some, None, Result, Ok, Err, IfSome, refl, ap, sym, ◌∙◌, subst, arith, inl, inr}
+use Rattle.std.proofs.Common.{◌≡◌, ◌≢◌, ◌⊎◌, ℕ, List, length, map, Option, Some, None, Result, Ok, Err, IfSome, refl, sym, ◌∙◌, subst, arith, inl, inr}
 use Rattle.std.specs.Io.KnownBytes.{Appends}
 use Rattle.std.proofs.lemmas.Bool.Decides.{eqb_tells}
 use Rattle.std.proofs.lemmas.List.{length-map}
-use Rattle.ic_edge.specs.Causes.{Rose, TakesAFront}
+use Rattle.ic_edge.specs.Causes.{Rose}
 use Rattle.pl_read.specs.declared.document.Document.{Document}
 use Rattle.gd_sim.specs.declared.feed.Feed.{Feed}
 use Rattle.gd_sim.specs.declared.tally.Tally.{Tally}
@@ -13,19 +13,18 @@ use Rattle.gd_sim.specs.declared.run.FirstNo.TheVariants as fault
 use Rattle.gd_sim.specs.Run.{Ends}
 use Rattle.gd_sim.proofs.Feeds.{length-feeds}
 use Rattle.icq_top.specs.declared.command.Ended.{Ended}
-use Rattle.icq_top.specs.declared.command.Ended.TheVariants.{Traced}
 use Rattle.icq_top.specs.declared.print.Answer.{Answer}
 use Rattle.icq_top.specs.declared.running.Ran.{Ran}
 use Rattle.icq_top.specs.declared.stop.Stop.{Stop}
 use Rattle.icq_top.specs.declared.stop.Stop.TheVariants.{Usage, ReadFault, TooLong, Unread, Unsound, NotBuilt, Memory}
 use Rattle.icq_top.specs.Words.{drops_of_words}
-use Rattle.icq_top.specs.Stops.{status_of_stop, error_text, status_of_fault, fault_text}
+use Rattle.icq_top.specs.Stops.{status_of_stop}
 use Rattle.icq_top.specs.Judging.{judged_by}
 use Rattle.icq_top.specs.Print.{text_of, tallies_in}
-use Rattle.icq_top.specs.Outcome.{outcome, given_in, judged_in, Reads, Leads, RunWrites, MayWrite, IsFaultStatus, IsRunStatus, Agrees, HasCauses, IsWritten, IsCutShort, IsEnding, IsEnded, IsDelivery, IsDelivered, Delivers}
+use Rattle.icq_top.specs.Outcome.{outcome, given_in, judged_in, Reads, Leads, RunWrites, MayWrite, IsFaultStatus, IsRunStatus, Agrees, HasCauses, IsWritten, IsCutShort, IsEnded, IsDelivered}
 use Rattle.icq_top.specs.Outcome.RunWrites.{finished, faulted, short}
 use Rattle.icq_top.specs.Outcome.MayWrite.{answer as may_answer, line as may_line}
-use Rattle.icq_top.specs.Work.{Works, IsWorked, IsTold, StopWrites, RanWrites, HandsBack, AreAnswers}
+use Rattle.icq_top.specs.Work.{IsWorked, IsTold, StopWrites, RanWrites, HandsBack, AreAnswers}
 use Rattle.icq_top.specs.Work.StopWrites.{whole as stop_whole, memory as stop_memory}
 use Rattle.icq_top.specs.Work.RanWrites.{all as ran_all, memory as ran_memory}
 use Rattle.icq_top.proofs.Delivering.{delivers}

@@ -1,6 +1,6 @@
 -- A run of a document delivers it.
-use Rattle.std.proofs.Common.{◌≡◌, ℕ, zero, suc, ◌+◌, ◌<◌, ◌≤◌, pos, List, [], ◌∷◌, ◌++◌, length, map, Option, Some, None, refl, ap, sym, ◌∙◌, subst, arith}
-use Rattle.std.specs.List.{AllByRecursion, range_with_len, flat_map, slice_get}
+use Rattle.std.proofs.Common.{◌≡◌, ℕ, ◌+◌, ◌≤◌, pos, List, [], ◌∷◌, ◌++◌, length, map, Some, refl, ap, sym, ◌∙◌, subst, arith}
+use Rattle.std.specs.List.{range_with_len, flat_map, slice_get}
 use Rattle.std.specs.List.Sorted.{IsPermutation}
 use Rattle.std.proofs.lemmas.List.{length-map, append-nil}
 use Rattle.std.proofs.lemmas.List.Sorted.{IsPermutation-trans, IsPermutation-refl}
@@ -12,29 +12,24 @@ use Rattle.pl_tree.specs.declared.schema.Schema.{Schema}
 use Rattle.pl_tree.specs.declared.schema.Placing.{Placing}
 use Rattle.pl_tree.specs.declared.schema.Placing.TheVariants.{Keyed, Dealt, Everywhere}
 use Rattle.pl_tree.specs.Trees.{tree_in}
-use Rattle.pl_plan.specs.declared.sound.Judged.{Judged}
 use Rattle.pl_read.specs.declared.table.Table.{Table}
 use Rattle.pl_read.specs.declared.document.Document.{Document}
-use Rattle.pl_rows.specs.declared.loaded.Spread.{Spread}
 use Rattle.pl_rows.specs.Placed.{rows_at}
-use Rattle.tb_load.specs.Kept.{loaded_of, schemas_of}
+use Rattle.tb_load.specs.Kept.{loaded_of}
 use Rattle.tb_load.specs.Standing.{over_all, IsWhole}
 use Rattle.tb_load.proofs.Looking.{came_from}
 use Rattle.tb_load.proofs.Loaded.{once}
 use Rattle.gd_sim.specs.declared.feed.Feed.{Feed}
-use Rattle.gd_sim.specs.declared.tally.Tally.{Tally}
-use Rattle.gd_sim.specs.declared.run.FirstRun.{FirstRun}
 use Rattle.gd_sim.specs.Feeding.{part_of, parts_of}
-use Rattle.gd_sim.specs.Run.{AnswersFeed}
-use Rattle.gd_sim.specs.Plans.{gathered, senders_of, feed_of, feeds_of, IsRunOf}
+use Rattle.gd_sim.specs.Plans.{gathered, senders_of, feed_of, feeds_of}
 use Rattle.gd_sim.specs.Tallying.{AreTallies}
-use Rattle.gd_sim.proofs.Feeds.{Found, feed_at, feed_found}
+use Rattle.gd_sim.proofs.Feeds.{feed_at, feed_found}
 use Rattle.icq_top.specs.declared.print.Answer.{Answer}
 use Rattle.icq_top.specs.declared.running.Ran.{Ran}
 use Rattle.icq_top.specs.Judging.{judged_by}
 use Rattle.icq_top.specs.Print.{rows_in, tallies_in}
-use Rattle.icq_top.specs.Outcome.{given_in, judged_in, Answers, Delivers}
-use Rattle.icq_top.specs.Work.{IsRead, IsRanOf, AreAnswers}
+use Rattle.icq_top.specs.Outcome.{given_in, judged_in, Delivers}
+use Rattle.icq_top.specs.Work.{IsRanOf, AreAnswers}
 
 -- ---- the rows of a table
 

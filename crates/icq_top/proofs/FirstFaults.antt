@@ -1,5 +1,5 @@
 -- The first fault as a function is the first fault.
-use Rattle.std.proofs.Common.{◌≡◌, ◌⊎◌, ℕ, ◌+◌, ◌<◌, ◌≤◌, List, [], ◌∷◌, ◌++◌, Bool, true, false, cond, ◌&&◌, nat_lt, Option, Some, None, refl, ap, sym, ◌∙◌, subst, arith, inl, inr}
+use Rattle.std.proofs.Common.{◌≡◌, ◌⊎◌, ℕ, ◌+◌, ◌<◌, ◌≤◌, List, [], ◌∷◌, ◌++◌, Bool, true, false, cond, ◌&&◌, nat_lt, Some, None, refl, ap, sym, ◌∙◌, subst, arith, inl, inr}
 use Rattle.std.specs.List.{AllByRecursion}
 use Rattle.std.proofs.lemmas.Bool.{and_parts, ltb-true, lt-ltb}
 use Rattle.pl_tree.specs.declared.node.Plan.{Plan}
@@ -11,7 +11,6 @@ use Rattle.pl_plan.specs.Places.{Place, places_in, is_root}
 use Rattle.pl_plan.specs.Motions.{ring_room, workers}
 use Rattle.pl_plan.specs.Rules.{Given, Breaks, rule_number, most_bytes, most_workers}
 use Rattle.pl_plan.specs.Soundness.{IsUnbroken, IsSound, IsFirstFault}
-use Rattle.icq_top.specs.declared.stop.Stop.{Stop}
 use Rattle.icq_top.specs.declared.stop.Stop.TheVariants.{Unsound}
 use Rattle.icq_top.specs.Judging.{tests_at, first_rule, fault_or, fault_among, fault_of, FaultsAreFirst, refusal_or, refusal_from}
 

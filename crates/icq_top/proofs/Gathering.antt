@@ -1,11 +1,10 @@
 -- A document's plans as what they gather, and what a run of them is.
-use Rattle.std.proofs.Common.{◌≡◌, ℕ, zero, suc, ◌+◌, ◌<◌, ◌≤◌, List, [], ◌∷◌, ◌++◌, length, map, Bool, true, false, cond, ◌&&◌, Option, Some, None, Result, Ok, Err, refl, ap, sym, ◌∙◌, subst, arith}
+use Rattle.std.proofs.Common.{◌≡◌, ℕ, ◌+◌, ◌≤◌, List, [], ◌∷◌, length, map, Bool, true, false, cond, ◌&&◌, Option, Some, None, Ok, Err, refl, ap, sym, ◌∙◌, subst, arith}
 use Rattle.std.specs.List.{AllByRecursion, list_all}
 use Rattle.std.proofs.lemmas.List.{length-map}
 use Rattle.pl_tree.specs.declared.node.Plan.{Plan}
-use Rattle.pl_tree.specs.Trees.{Tree, Scan, Gather, tree_in}
+use Rattle.pl_tree.specs.Trees.{Scan, Gather, tree_in}
 use Rattle.pl_tree.specs.Columns.{schema_named}
-use Rattle.pl_tree.specs.declared.schema.Schema.{Schema}
 use Rattle.pl_plan.specs.declared.rule.Rule.{Rule}
 use Rattle.pl_plan.specs.declared.rule.Rule.TheVariants.{UnknownTable, Column, ColumnKind, JoinLocus, AggLocus, LimitLocus, OrderMissing, MotionAboveEntry, PartialUnmatched, NotAtEntry, TooWide, TooMany}
 use Rattle.pl_plan.specs.declared.rule.PlanFault.{PlanFault}
@@ -22,14 +21,14 @@ use Rattle.gd_sim.specs.declared.feed.Feed.{Feed}
 use Rattle.gd_sim.specs.declared.run.FirstRun.{FirstRun}
 use Rattle.gd_sim.specs.declared.run.FirstNo.{FirstNo}
 use Rattle.gd_sim.specs.Run.{Ends}
-use Rattle.gd_sim.specs.Plans.{gathered, is_some, is_gather, feed_of, before, feeds_of, Runs, IsRunOf}
-use Rattle.gd_sim.proofs.Feeds.{Found, before_some, feed_found, length-feeds, gather_shape, fed, few_senders}
+use Rattle.gd_sim.specs.Plans.{is_some, is_gather, feed_of, before, feeds_of, Runs, IsRunOf}
+use Rattle.gd_sim.proofs.Feeds.{before_some, feed_found, length-feeds, gather_shape, fed, few_senders}
 use Rattle.icq_top.specs.declared.running.Ran.{Ran}
 use Rattle.icq_top.specs.declared.stop.Stop.{Stop}
-use Rattle.icq_top.specs.declared.stop.Stop.TheVariants.{Unsound, NotBuilt}
+use Rattle.icq_top.specs.declared.stop.Stop.TheVariants.{NotBuilt}
 use Rattle.icq_top.specs.Judging.{tests_at, first_rule, fault_or, fault_of, refusal_or, refusal_from, judged_by}
-use Rattle.icq_top.specs.Outcome.{given_in, is_gather_plan, run_end, judged_end, judged_in}
-use Rattle.icq_top.specs.Work.{IsRead, IsBounded, IsRanOf}
+use Rattle.icq_top.specs.Outcome.{given_in, is_gather_plan, judged_end, judged_in}
+use Rattle.icq_top.specs.Work.{IsRead, IsBounded}
 use Rattle.icq_top.proofs.FirstFaults.{at_place}
 
 -- ---- which plans gather

@@ -1,11 +1,10 @@
 -- What was told, seen as other texts and behind other texts.
-use Rattle.std.proofs.Common.{◌≡◌, ◌≢◌, ℕ, ◌+◌, ◌<◌, List, [], ◌∷◌, ◌++◌, length, take, map, Option, Some, None, Result, Ok, Err, inl, inr, refl, ap, sym, ◌∙◌, subst, arith, append-nil, length-append, append_assoc}
+use Rattle.std.proofs.Common.{◌≡◌, ◌≢◌, ℕ, ◌+◌, List, [], ◌∷◌, ◌++◌, length, take, map, Option, Some, None, Ok, Err, inl, inr, refl, ap, sym, ◌∙◌, subst, arith, append-nil, length-append}
 use Rattle.std.specs.List.{concat, flat_map}
 use Rattle.std.specs.Io.KnownBytes.{Appends}
 use Rattle.std.proofs.lemmas.List.{take_all, take-append-le}
 use Rattle.ic_edge.specs.Causes.{TakesAFront}
 use Rattle.ic_edge.proofs.Known.{Appends-trans}
-use Rattle.ic_row.specs.declared.value.Value.{Value}
 use Rattle.gd_sim.specs.declared.tally.Tally.{Tally}
 use Rattle.gd_sim.specs.declared.run.FirstRun.{FirstRun}
 use Rattle.gd_sim.specs.declared.run.FirstNo.{FirstNo}
@@ -16,7 +15,7 @@ use Rattle.icq_top.specs.declared.running.Ran.{Ran}
 use Rattle.icq_top.specs.declared.stop.Stop.{Stop}
 use Rattle.icq_top.specs.declared.stop.Stop.TheVariants.{Memory}
 use Rattle.icq_top.specs.Stops.{status_of_stop, error_text, status_of_fault, fault_text}
-use Rattle.icq_top.specs.Print.{WroteLines, query_lines, lines_of, text_of, answer_lines, rows_in, tallies_in}
+use Rattle.icq_top.specs.Print.{lines_of, text_of, answer_lines, rows_in, tallies_in}
 use Rattle.icq_top.specs.Outcome.{RunWrites}
 use Rattle.icq_top.specs.Outcome.RunWrites.{finished, faulted, short}
 use Rattle.icq_top.specs.Work.{IsTold, Says, StopWrites, EndWrites, RanWrites, AreAnswers, PrintsRun}

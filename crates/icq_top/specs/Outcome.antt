@@ -1,5 +1,5 @@
 -- What the words and the bytes lead to, and what the program may write.
-use Rattle.std.specs.Prelude.{◌≡◌, ◌≢◌, ◌⊎◌, ℕ, ◌+◌, ◌<◌, ◌≤◌, List, [], ◌∷◌, ◌++◌, length, take, map, Bool, codes, nat_lt, if◌then◌else◌, Option, Some, None, Result, Ok, Err, IfSome, IsPermutation, slice_get}
+use Rattle.std.specs.Prelude.{◌≡◌, ◌≢◌, ◌⊎◌, ℕ, ◌+◌, List, ◌++◌, length, take, map, Bool, nat_lt, if◌then◌else◌, Option, Some, None, Result, Ok, Err, IfSome, IsPermutation, slice_get}
 use Rattle.std.specs.List.{concat, list_all}
 use Rattle.std.specs.Io.KnownBytes.{Appends}
 use Rattle.ic_edge.specs.Causes.{Rose, TakesAFront}

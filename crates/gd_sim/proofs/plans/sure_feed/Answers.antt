@@ -1,4 +1,4 @@
-use Rattle.std.proofs.Common.{sym, ◌∙◌}
+use Rattle.std.proofs.Common.{sym}
 use Rattle.gd_sim.proofs.Feeds.{sure, runs_feed}
 use Rattle.gd_sim.proofs.plans.sure_feed.Goals as goal
 

@@ -1,4 +1,4 @@
-use Rattle.std.proofs.Common.{refl, subst, sym, ap, ◌∙◌}
+use Rattle.std.proofs.Common.{subst, sym}
 use Rattle.gd_sim.specs.Run.{IsRun}
 use Rattle.gd_sim.specs.Playing.{nodes_of}
 use Rattle.gd_sim.proofs.Running.{first_stands, is_run}

@@ -1,4 +1,4 @@
-use Rattle.std.proofs.Common.{arith, ◌∙◌, ap, length, map, max}
+use Rattle.std.proofs.Common.{arith, ◌∙◌, ap, length, map}
 use Rattle.std.specs.List.{flat_map}
 use Rattle.ic_law.specs.History.{rows_in, number_of, greatest}
 use Rattle.gd_sim.proofs.Counting.{count_emitted, upto_emitted}

@@ -1,6 +1,5 @@
-use Rattle.std.proofs.Common.{◌≡◌, ◌+◌, ◌++◌, ◌∷◌, [], length, sym, subst, arith, length-append, ap, ◌∙◌, pos, negsuc, Some, ℕ}
+use Rattle.std.proofs.Common.{◌∷◌, [], length, sym, subst, arith, length-append, ap, ◌∙◌, negsuc, ℕ}
 use Rattle.std.specs.List.{slice_get}
-use Rattle.ic_base.specs.declared.keys.ConnKey.{ConnKey}
 use Rattle.gd_law.specs.Answers.{gather_key}
 use Rattle.gd_sim.specs.declared.tally.Tally.{Tally}
 use Rattle.gd_sim.specs.Tallying.{IsTallyOf}

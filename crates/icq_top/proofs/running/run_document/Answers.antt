@@ -1,4 +1,4 @@
-use Rattle.std.proofs.Common.{◌≡◌, ◌≤◌, length, map, Some, None, Ok, ap, sym, ◌∙◌, subst, arith, refl, option_map, Vec, Global}
+use Rattle.std.proofs.Common.{◌≡◌, ◌≤◌, length, map, Some, Ok, ap, sym, ◌∙◌, subst, arith, refl, option_map, Vec, Global}
 use Rattle.std.specs.List.{AllByRecursion}
 use Rattle.pl_tree.specs.Trees.{tree_in}
 use Rattle.pl_tree.specs.Sizes.{IsPlan}

@@ -1,4 +1,4 @@
-use Rattle.std.proofs.Common.{◌≡◌, map, take}
+use Rattle.std.proofs.Common.{◌≡◌, map}
 use Rattle.gd_sim.specs.Playing.{entries_in}
 use Rattle.gd_sim.proofs.sim.Sim.into_histories.Given as goal
 

@@ -1,6 +1,5 @@
-use Rattle.std.proofs.Common.{take, true}
+use Rattle.std.proofs.Common.{take}
 use Rattle.std.specs.List.{AllByRecursion}
-use Rattle.gd_sim.specs.declared.station.Station.{Station}
 use Rattle.gd_sim.proofs.Steps.{HasLeft}
 use Rattle.gd_sim.proofs.sim.Sim.is_over.Given as goal
 

@@ -1,6 +1,5 @@
 use Rattle.std.proofs.Common.{take}
 use Rattle.std.specs.List.{AllByRecursion}
-use Rattle.gd_sim.specs.declared.station.Station.{Station}
 use Rattle.gd_sim.proofs.Steps.{KeepsLaws}
 use Rattle.gd_sim.proofs.sim.Sim.lawful.Given as goal
 

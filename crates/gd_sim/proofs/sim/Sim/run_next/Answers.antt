@@ -1,6 +1,5 @@
-use Rattle.std.proofs.Common.{refl, subst, sym, ap, ◌∙◌, ◌+◌, Some, Ok, Err, ◌++◌, ◌∷◌, [], length, length-append, slice_index_or}
+use Rattle.std.proofs.Common.{subst, sym, ap, ◌∙◌, ◌+◌, Err, ◌∷◌, [], length, length-append, slice_index_or}
 use Rattle.std.proofs.lemmas.Option.{slice_get-get_or}
-use Rattle.pl_rows.specs.Placed.{rows_at}
 use Rattle.gd_sim.specs.Runs.{Stands, Ends}
 use Rattle.gd_sim.proofs.Running.{gather_of, next_starts, one_more, none_more}
 use Rattle.gd_sim.proofs.sim.Sim.run_next.Goals as goal

@@ -1,4 +1,4 @@
-use Rattle.std.proofs.Common.{◌≡◌, Some, ap, sym, ◌∙◌, subst, slice_get, slice_index_or, refl}
+use Rattle.std.proofs.Common.{ap, sym, ◌∙◌, subst, slice_index_or, refl}
 use Rattle.ic_law.specs.Arriving.{ClearNow, NotClear}
 use Rattle.ic_hub.specs.Hubbing.{Hubbing, IsHub}
 use Rattle.ic_hub.specs.Leaving.{TellsUnclear}

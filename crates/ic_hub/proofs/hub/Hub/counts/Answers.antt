@@ -1,4 +1,4 @@
-use Rattle.std.proofs.Common.{◌≡◌, Bool, true, false, sym, subst}
+use Rattle.std.proofs.Common.{sym, subst}
 use Rattle.ic_hub.specs.Hubbing.{Hubbing, IsHub}
 use Rattle.ic_hub.specs.Counting.{CountsFound}
 use Rattle.ic_hub.proofs.Shape.{shape_of}

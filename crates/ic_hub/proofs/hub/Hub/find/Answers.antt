@@ -1,4 +1,4 @@
-use Rattle.std.proofs.Common.{◌≡◌, length, ap, sym, ◌∙◌, subst, slice_index_or, slice_get}
+use Rattle.std.proofs.Common.{◌≡◌, ap, sym, ◌∙◌, subst, slice_index_or, slice_get}
 use Rattle.std.proofs.lemmas.Option.{slice_get_within}
 use Rattle.ic_places.specs.Ends.{keys_of, sender_at, receiver_at}
 use Rattle.ic_hub.specs.Hubbing.{Hubbing, Living, IsHub}

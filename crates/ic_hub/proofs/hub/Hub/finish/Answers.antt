@@ -1,4 +1,4 @@
-use Rattle.std.proofs.Common.{◌≡◌, ◌<◌, List, [], ◌∷◌, ◌++◌, length, Some, ap, sym, ◌∙◌, subst, slice_get, slice_index_or, arith}
+use Rattle.std.proofs.Common.{◌≡◌, [], ◌∷◌, ◌++◌, length, Some, ap, sym, ◌∙◌, subst, slice_get, slice_index_or, arith}
 use Rattle.std.proofs.lemmas.Option.{slice_get_within}
 use Rattle.std.specs.Prelude.{OnErr}
 use Rattle.ic_hub.specs.Hubbing.{Hubbing, Living, IsHub, IsOfHub, place_in}

@@ -1,13 +1,12 @@
-use Rattle.std.proofs.Common.{◌≡◌, [], ◌∷◌, ◌++◌, Some, Ok, Err, ap, sym, ◌∙◌, subst, slice_get, slice_index_or, refl}
+use Rattle.std.proofs.Common.{[], ◌∷◌, ◌++◌, Ok, ap, sym, ◌∙◌, subst, slice_index_or, refl}
 use Rattle.ic_law.specs.Arriving.{LeftUnclear, LeftNothing}
-use Rattle.ic_conntab.specs.Table.{left}
-use Rattle.ic_hub.specs.Hubbing.{Hubbing, Living, IsHub}
+use Rattle.ic_hub.specs.Hubbing.{Hubbing, IsHub}
 use Rattle.ic_hub.specs.Standing.{Stands}
 use Rattle.ic_hub.specs.Entries.{leave_entry}
 use Rattle.ic_hub.specs.Leaving.{TellsUnclear}
 use Rattle.ic_hub.proofs.Shape.{shape_of}
 use Rattle.ic_hub.proofs.Finds.{indexed}
-use Rattle.ic_hub.proofs.Leaving.{found_by, live_there, not_found, leave_refused, left_hub, left_stands, left_is, hub_left, hub_without, table_left}
+use Rattle.ic_hub.proofs.Leaving.{found_by, live_there, not_found, leave_refused, left_stands, left_is, hub_left, hub_without, table_left}
 use Rattle.ic_hub.specs.contracts.hub.Hub.{the_view}
 use Rattle.ic_hub.proofs.hub.Hub.leave.Goals as goal
 

@@ -1,4 +1,4 @@
-use Rattle.std.proofs.Common.{◌≡◌, ap, sym, ◌∙◌, length, arith}
+use Rattle.std.proofs.Common.{ap, sym, arith}
 use Rattle.ic_hub.specs.Hubbing.{Living}
 use Rattle.ic_hub.proofs.Leaving.{slot_less, unclear_here, clear_more, all_clear}
 use Rattle.ic_hub.proofs.query.Query.first_unclear.Goals as goal

@@ -1,4 +1,4 @@
-use Rattle.std.proofs.Common.{◌≡◌, ap, sym, ◌∙◌, subst, slice_index_or, length}
+use Rattle.std.proofs.Common.{◌≡◌, ap, sym, ◌∙◌, subst, slice_index_or}
 use Rattle.ic_places.specs.Slots.{IsWithin}
 use Rattle.ic_hub.specs.Hubbing.{Living, IsLiving}
 use Rattle.ic_hub.specs.Leaving.{TellsClear}

@@ -1,4 +1,4 @@
-use Rattle.std.proofs.Common.{◌≡◌, false, Some, ap, sym, ◌∙◌, slice_get, slice_index_or}
+use Rattle.std.proofs.Common.{◌≡◌, Some, ap, sym, ◌∙◌, slice_get, slice_index_or}
 use Rattle.ic_outgoing.specs.Outgoing.{OutgoingState}
 use Rattle.ic_hub.specs.Hubbing.{Living}
 use Rattle.ic_hub.specs.Calls.{Answered}

@@ -1,4 +1,4 @@
-use Rattle.std.proofs.Common.{◌≡◌, Some, ap, sym, ◌∙◌, subst, slice_get, slice_index_or}
+use Rattle.std.proofs.Common.{◌≡◌, Some, ap, sym, ◌∙◌, subst, slice_index_or}
 use Rattle.ic_receiver.specs.Receiving.{Receiving}
 use Rattle.ic_hub.specs.Hubbing.{Living}
 use Rattle.ic_hub.specs.Counting.{IsCountOfReceiver}
