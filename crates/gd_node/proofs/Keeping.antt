@@ -19,9 +19,9 @@ use Rattle.ic_hub.specs.Standing.{Stands}
 use Rattle.ic_hub.specs.Calls.{SamePlace}
 use Rattle.gd_log.specs.Logs.{IsOf, IsOurs, IsUpto}
 use Rattle.gd_node.specs.Noding.{Noding, place_of, IsLawful, IsNode}
-use Rattle.gd_node.specs.Calls.{Works}
+use Rattle.gd_node.specs.Calls.{Works, begin_in}
 use Rattle.gd_node.specs.Telling.{noted}
-use Rattle.gd_node.proofs.Noting.{all_append, all_map, noted_all, noted_few, noted_came, noted_left, noted_stands, noted_lives}
+use Rattle.gd_node.proofs.Noting.{all_append, all_map, noted_all, noted_few, noted_came, noted_left, noted_begun, noted_stands, noted_lives}
 
 -- ---- places
 
@@ -109,8 +109,8 @@ notes_keep session at packet n hub entries ask reply is notes none_left =
 
 -- it was a worker's call
 pub notes_works : (n : Noding) (hub : Hubbing) (entries : List Entry) (ask : HubAsk) (reply : HubReply)
-    → Notes n hub entries ask reply → IsOf n.query ask → datagram_in ask ≡ [] → left_by ask reply ≡ [] → Works n (after n hub n.query n.ends entries)
-notes_works n hub entries ask reply notes is_of none_in none_left = record {
+    → Notes n hub entries ask reply → IsOf n.query ask → datagram_in ask ≡ [] → left_by ask reply ≡ [] → begin_in ask ≡ [] → Works n (after n hub n.query n.ends entries)
+notes_works n hub entries ask reply notes is_of none_in none_left none_begun = record {
   place = notes.place;
   query = refl;
   ends = refl;
@@ -120,6 +120,7 @@ notes_works n hub entries ask reply notes is_of none_in none_left = record {
   are_of = noted_all (λ (e : Entry). IsOf n.query e.ask) ask reply is_of;
   none_came = noted_came ask reply none_in;
   none_left = noted_left ask reply none_left;
+  none_begun = noted_begun ask reply none_begun;
 }
 
 -- ---- a call that does nothing, and one whose entry is lost
@@ -135,6 +136,7 @@ works_not n = record {
   are_of = tt;
   none_came = refl;
   none_left = refl;
+  none_begun = refl;
 }
 
 abbrev pub breaking : Noding → Hubbing → Noding
@@ -165,6 +167,7 @@ broken_works n hub same = record {
   are_of = tt;
   none_came = refl;
   none_left = refl;
+  none_begun = refl;
 }
 
 -- ---- what it is good for

@@ -27,6 +27,7 @@ use Rattle.ic_hub.specs.Standing.{Stands}
 use Rattle.ic_hub.specs.Entries.{begun_of, gave_of, took_of, ticked_of}
 use Rattle.gd_log.specs.Logs.{logs, logs_by, log_of}
 use Rattle.gd_node.specs.Telling.{noted}
+use Rattle.gd_node.specs.Calls.{begin_in, begins_of}
 
 -- ---- lists
 
@@ -81,6 +82,12 @@ pub noted_left : (ask : HubAsk) (reply : HubReply) → left_by ask reply ≡ [] 
 noted_left ask reply none_left = elim (noted_cases ask reply) [
   | inl h ↦ ap left_of h.1
   | inr h ↦ ap left_of h ∙ append-nil (left_by ask reply) ∙ none_left
+]
+
+pub noted_begun : (ask : HubAsk) (reply : HubReply) → begin_in ask ≡ [] → begins_of (noted ask reply) ≡ []
+noted_begun ask reply none_begun = elim (noted_cases ask reply) [
+  | inl h ↦ ap begins_of h.1
+  | inr h ↦ ap begins_of h ∙ append-nil (begin_in ask) ∙ none_begun
 ]
 
 -- the hub stands for the history with what the call adds

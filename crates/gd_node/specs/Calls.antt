@@ -1,11 +1,13 @@
 -- What each call makes of a node.
 use Rattle.std.specs.Prelude.{◌≡◌, ℕ, ◌≤◌, List, [], ◌∷◌, ◌++◌, length, Bool, true, false, Ok, Err}
-use Rattle.std.specs.List.{AllByRecursion}
+use Rattle.std.specs.List.{AllByRecursion, flat_map}
 use Rattle.ic_base.specs.declared.keys.ConnEnd.{ConnEnd}
 use Rattle.ic_base.specs.declared.keys.BeginNo.{BeginNo}
 use Rattle.ic_base.specs.declared.keys.BeginNo.TheVariants as begin
 use Rattle.ic_base.specs.declared.datagram.Datagram.{Datagram}
 use Rattle.ic_law.specs.declared.history.Arrived.{Arrived}
+use Rattle.ic_law.specs.declared.history.HubAsk.{HubAsk}
+use Rattle.ic_law.specs.declared.history.HubAsk.TheVariants.{Begin, Put, Finish, Take, TakeFrom, Halt, Arrive, Tick, Clear, Leave}
 use Rattle.ic_law.specs.declared.history.TickNo.{TickNo}
 use Rattle.ic_law.specs.declared.history.TickNo.TheVariants as tick
 use Rattle.ic_law.specs.declared.history.LeaveNo.{LeaveNo}
@@ -16,9 +18,32 @@ use Rattle.ic_hub.specs.Calls.{SamePlace}
 use Rattle.gd_log.specs.Logs.{log_of, IsOf}
 use Rattle.gd_node.specs.Noding.{Noding}
 
+-- ---- queries that are asked to begin
+
+-- the query that an ask is to begin, if it is to begin one
+abbrev pub begin_in : HubAsk → List ℕ
+begin_in (Begin query ends) = query ∷ []
+begin_in (Put key chunk) = []
+begin_in (Finish key) = []
+begin_in (Take query motion) = []
+begin_in (TakeFrom key) = []
+begin_in (Halt key) = []
+begin_in (Arrive d) = []
+begin_in Tick = []
+begin_in (Clear query) = []
+begin_in (Leave query) = []
+
+abbrev pub begins : Entry → List ℕ
+begins e = begin_in e.ask
+
+-- the queries that were asked to begin
+abbrev pub begins_of : List Entry → List ℕ
+begins_of h = flat_map begins h
+
 -- ---- a worker's call
 
--- At most one entry more, of an ask of a worker of this query: no datagram came with it, and no query was left.
+-- At most one entry more, of an ask of a worker of this query: no datagram came with it, and no query was left or asked to
+-- begin.
 pub record Works (a b : Noding) : Type 0 where
   pub place : SamePlace a.hub b.hub
   pub query : b.query ≡ a.query
@@ -29,6 +54,7 @@ pub record Works (a b : Noding) : Type 0 where
   pub are_of : AllByRecursion (λ e. IsOf a.query e.ask) more
   pub none_came : arrived_of more ≡ []
   pub none_left : left_of more ≡ []
+  pub none_begun : begins_of more ≡ []
 
 -- ---- the other calls
 

@@ -3,7 +3,7 @@ use Rattle.std.proofs.Common.{◌≡◌, ◌≢◌, ◌⊎◌, ℕ, zero, suc, �
 use Rattle.std.specs.List.{AllByRecursion, Contains, list_any}
 use Rattle.std.specs.Option.{option_map}
 use Rattle.std.proofs.lemmas.List.{get_or_past, length-map}
-use Rattle.std.proofs.lemmas.List.Elements.{Contains-append_left}
+use Rattle.std.proofs.lemmas.List.Elements.{Contains-append_left, Contains-append_cases}
 use Rattle.std.proofs.lemmas.Option.{slice_get-map, slice_get_within, slice_get_cases, get_or_from_slice_get}
 use Rattle.std.proofs.lemmas.Bool.Decides.{Decides-eqb}
 use Rattle.ic_base.specs.declared.keys.ConnKey.{ConnKey}
@@ -22,7 +22,7 @@ use Rattle.ic_law.specs.Points.{Place, place_at}
 use Rattle.ic_law.specs.Hub.{HubLaw}
 use Rattle.ic_law.specs.Emission.{EmissionLaw}
 use Rattle.ic_law.specs.Streams.{history_of}
-use Rattle.ic_law.proofs.Lists.{Contains-none, flat_map-append}
+use Rattle.ic_law.proofs.Lists.{Contains-none, Contains-one, flat_map-append, flat_map-push}
 use Rattle.ic_law.proofs.Following.{follows}
 use Rattle.ic_hub.specs.Hubbing.{Hubbing, place_in}
 use Rattle.ic_hub.specs.Calls.{SamePlace}
@@ -33,6 +33,7 @@ use Rattle.gd_work.specs.declared.course.Course.TheVariants.{Going, Done}
 use Rattle.gd_work.specs.Sending.{Scans}
 use Rattle.gd_work.specs.Taking.{Gathering, Gathers, parcels_of, LetsOut}
 use Rattle.gd_log.specs.Logs.{halt_logs, logs_by, logs, log_of, IsOf, IsOurs}
+use Rattle.gd_node.specs.Calls.{begins as asked_begins, begins_of}
 use Rattle.gd_node.specs.Noding.{Noding, place_of}
 use Rattle.gd_law.specs.Sessions.{IsSession}
 use Rattle.gd_law.specs.Answers.{gather_key}
@@ -80,7 +81,7 @@ grows_past query other a b grow differ = λ segment.
 
 -- ---- histories of stations
 
-there : (items : List Station) (k : ℕ) (station : Station) → slice_get items k ≡ Some station → slice_index_or (nodes_of items) k [] ≡ station.node.entries
+pub there : (items : List Station) (k : ℕ) (station : Station) → slice_get items k ≡ Some station → slice_index_or (nodes_of items) k [] ≡ station.node.entries
 there items k station at = get_or_from_slice_get (nodes_of items) k station.node.entries [] (slice_get-map entries_in items k ∙ ap (option_map entries_in) at)
 
 past : (items : List Station) (k : ℕ) → length items ≤ k → slice_index_or (nodes_of items) k [] ≡ []
@@ -147,6 +148,7 @@ new_is_sim session segments settings drops s new =
         placed = λ k station at. record {
           place = ap place_of (new.each k station at);
           lefts = λ n left. absurd (Contains-none n (subst (λ (x : Noding). Contains (left_of x.entries) n) (new.each k station at) left));
+          begun = λ n asked. absurd (Contains-none n (subst (λ (x : Noding). Contains (begins_of x.entries) n) (new.each k station at) asked));
         };
         network = λ b d came. absurd (Contains-none d (subst (λ h. Contains (arrived_of h) d) (none b) came));
         kept = λ d kept. absurd (Contains-none d (subst (λ (n : Net). Contains n.kept d) new.network kept));
@@ -313,12 +315,17 @@ begun_plays g b old k new placed_at later session_is query_is packet_is senders_
     let at : was.node.hub.at ≡ segment_at k = ap (λ (p : Place). p.at) placed.place in
     let same_left : left_of new.node.entries ≡ left_of was.node.entries =
     ap left_of begins.entries ∙ flat_map-append leaves was.node.entries (begin_entry b.query (ends_of b was.node.hub.at) (Ok tt) ∷ []) ∙ append-nil (left_of was.node.entries) in
+    let begun_now : begins_of new.node.entries ≡ begins_of was.node.entries ++ b.query ∷ [] = ap begins_of begins.entries ∙ flat_map-push asked_begins was.node.entries (begin_entry b.query (ends_of b was.node.hub.at) (Ok tt)) in
     let before : (n : ℕ) → Contains (left_of new.node.entries) n → n ≤ was.node.query = λ n left. placed.lefts n (subst (λ l. Contains l n) same_left left) in
     let none : log_of g.query new.node.entries ≡ [] = ap (λ q. log_of q new.node.entries) (sym query_is) ∙ begins.log in
     record {
       placed = record {
         place = same_place was.node.hub new.node.hub begins.place ∙ placed.place;
         lefts = λ n left. let low : n ≤ was.node.query = before n left in omega (arith, low, less, query_now);
+        begun = λ n asked. elim (Contains-append_cases (begins_of was.node.entries) (b.query ∷ []) n (subst (λ l. Contains l n) begun_now asked)) [
+          | inl earlier ↦ (let in_it = placed.begun n earlier in let least = in_it.0 in let most = in_it.1 in (least, omega (arith, most, less, query_now)))
+          | inr now ↦ (let same : n ≡ b.query = Contains-one b.query n now in (omega (arith, same, less, query_is), omega (arith, same, query_is, query_now)))
+        ];
       };
       query = query_now;
       one_sends = one_sends;

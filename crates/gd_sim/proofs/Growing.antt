@@ -299,7 +299,7 @@ same_goes a g play = record {
 
 pub quiet_plays : (g : Gather) (segment : ℤ) (s : Station) (quiet : Bool) → Plays g segment s → Plays g segment (record s { quiet = quiet })
 quiet_plays g segment s quiet plays = record {
-  placed = record { place = plays.placed.place; lefts = plays.placed.lefts };
+  placed = record { place = plays.placed.place; lefts = plays.placed.lefts; begun = plays.placed.begun };
   query = plays.query;
   one_sends = plays.one_sends;
   ends = plays.ends;

@@ -24,7 +24,7 @@ use Rattle.gd_log.proofs.Logs.{log_grows}
 use Rattle.gd_law.specs.Answers.{gather_key}
 use Rattle.gd_law.specs.Playing.{IsFromOne}
 use Rattle.gd_node.specs.Noding.{Noding}
-use Rattle.gd_node.specs.Calls.{Adds, Arrives, TickRefused, Leaves, LeftOrNot}
+use Rattle.gd_node.specs.Calls.{begins, begins_of, Adds, Arrives, TickRefused, Leaves, LeftOrNot}
 use Rattle.gd_sim.specs.declared.station.Worker.{Worker}
 use Rattle.gd_sim.specs.declared.station.Worker.TheVariants.{Rests, Sends, Takes}
 use Rattle.gd_sim.specs.declared.station.Station.{Station}
@@ -105,6 +105,9 @@ halts_before c h more none asked =
 pub left_same : (h more : List Entry) → left_of more ≡ [] → left_of (h ++ more) ≡ left_of h
 left_same h more none = flat_map-append leaves h more ∙ ap (λ l. left_of h ++ l) none ∙ append-nil (left_of h)
 
+pub begun_same : (h more : List Entry) → begins_of more ≡ [] → begins_of (h ++ more) ≡ begins_of h
+begun_same h more none = flat_map-append begins h more ∙ ap (λ l. begins_of h ++ l) none ∙ append-nil (begins_of h)
+
 -- ---- its work
 
 pub takes_on : (g : Gather) (t : Gathering) (h more : List Entry) → log_of g.query more ≡ [] → ((c : ConnKey) → c.query ≡ g.query → list_any (halts c) more ≡ false)
@@ -151,14 +154,16 @@ station node worker quiet left = record { node = node; worker = worker; quiet = 
 
 -- it serves the query with a history that grew, while no query was left with that
 pub plays_on : (g : Gather) (segment : ℤ) (a b : Noding) (w v : Worker) (quiet left : Bool) (more : List Entry)
-    → SamePlace a.hub b.hub → b.query ≡ a.query → b.ends ≡ a.ends → b.entries ≡ a.entries ++ more → left_of more ≡ []
+    → SamePlace a.hub b.hub → b.query ≡ a.query → b.ends ≡ a.ends → b.entries ≡ a.entries ++ more → left_of more ≡ [] → begins_of more ≡ []
     → (left ≡ true → IsDone w → IsDone v) → WorkStands g segment v b.entries → Plays g segment (station a w quiet left) → Plays g segment (station b v quiet left)
-plays_on g segment a b w v quiet left more place query ends grown none_left done work plays =
+plays_on g segment a b w v quiet left more place query ends grown none_left none_begun done work plays =
     let lefts : left_of b.entries ≡ left_of a.entries = ap left_of grown ∙ left_same a.entries more none_left in
+    let begun : begins_of b.entries ≡ begins_of a.entries = ap begins_of grown ∙ begun_same a.entries more none_begun in
     record {
       placed = record {
         place = place_same a.hub b.hub place ∙ plays.placed.place;
         lefts = λ n at. subst (λ q. n ≤ q) (sym query) (plays.placed.lefts n (subst (λ l. Contains l n) lefts at));
+        begun = λ n at. subst (λ q. (1 ≤ n) × (n ≤ q)) (sym query) (plays.placed.begun n (subst (λ l. Contains l n) begun at));
       };
       query = query ∙ plays.query;
       one_sends = plays.one_sends;
@@ -171,15 +176,16 @@ plays_on g segment a b w v quiet left more place query ends grown none_left done
 
 -- with one entry that no worker asked
 pub plays_on_one : (g : Gather) (segment : ℤ) (a b : Noding) (w : Worker) (quiet left : Bool) (e : Entry)
-    → Adds e a b → IsUnasked e.ask → leaves e ≡ [] → Plays g segment (station a w quiet left) → Plays g segment (station b w quiet left)
-plays_on_one g segment a b w quiet left e adds is none_left plays =
-    plays_on g segment a b w w quiet left (e ∷ []) adds.place adds.query adds.ends adds.entries (ap (λ l. l ++ []) none_left) (λ h done. done)
+    → Adds e a b → IsUnasked e.ask → leaves e ≡ [] → begins e ≡ [] → Plays g segment (station a w quiet left) → Plays g segment (station b w quiet left)
+plays_on_one g segment a b w quiet left e adds is none_left none_begun plays =
+    plays_on g segment a b w w quiet left (e ∷ []) adds.place adds.query adds.ends adds.entries (ap (λ l. l ++ []) none_left) (ap (λ l. l ++ []) none_begun) (λ h done. done)
     (subst (λ h. WorkStands g segment w h) (sym adds.entries) (work_on_one g segment w a.entries e is plays.work)) plays
 
 -- it left the query, which its worker had done
 pub plays_left : (g : Gather) (segment : ℤ) (a b : Noding) (w : Worker) (quiet left : Bool) → Leaves a b → IsDone w → Plays g segment (station a w quiet left) → Plays g segment (station b w quiet true)
 plays_left g segment a b w quiet left leaves_it is plays =
     let lefts : left_of b.entries ≡ left_of a.entries ++ a.query ∷ [] = ap left_of leaves_it.entries ∙ flat_map-push leaves a.entries _ in
+    let begun : begins_of b.entries ≡ begins_of a.entries = ap begins_of leaves_it.entries ∙ flat_map-push begins a.entries _ ∙ append-nil (begins_of a.entries) in
     record {
       placed = record {
         place = place_same a.hub b.hub leaves_it.place ∙ plays.placed.place;
@@ -187,6 +193,7 @@ plays_left g segment a b w quiet left leaves_it is plays =
           | inl before ↦ plays.placed.lefts n before
           | inr now ↦ let same : n ≡ a.query = Contains-one a.query n now in omega (arith, same)
         ]);
+        begun = λ n at. subst (λ q. (1 ≤ n) × (n ≤ q)) (sym leaves_it.query) (plays.placed.begun n (subst (λ l. Contains l n) begun at));
       };
       query = leaves_it.query ∙ plays.query;
       one_sends = plays.one_sends;
@@ -217,7 +224,7 @@ grows_same query a b same = subst (λ (n : Noding). GrowsOwn query a.entries n.e
 
 pub heard_keeps : (d : Datagram) (a b : Noding) (w : Worker) (quiet left : Bool) (result : Result (Unit {0}) AllocError)
     → OnOk result (Arrives d a b) → OnErr result (b ≡ a) → Keeps (station a w quiet left) (station b w quiet left)
-heard_keeps d a b w quiet left (Ok u) ok err = λ g segment plays. plays_on_one g segment a b w quiet left _ ok.adds tt refl plays
+heard_keeps d a b w quiet left (Ok u) ok err = λ g segment plays. plays_on_one g segment a b w quiet left _ ok.adds tt refl refl plays
 heard_keeps d a b w quiet left (Err e) ok err = λ g segment plays. plays_same g segment a b w quiet left err plays
 
 heard_grows : (d : Datagram) (a b : Noding) (w : Worker) (quiet left : Bool) → Arrives d a b → Hears d (station a w quiet left) (station b w quiet left)
@@ -231,7 +238,7 @@ heard_hears d a b w quiet left (Err e) ok = tt
 -- ---- a tick
 
 pub refused_keeps : (refusal : TickNo) (a b : Noding) (w : Worker) (quiet left : Bool) → TickRefused refusal a b → Keeps (station a w quiet left) (station b w quiet left)
-refused_keeps (tick.Spent key seq tries) a b w quiet left is = λ g segment plays. plays_on_one g segment a b w quiet left _ is tt refl plays
+refused_keeps (tick.Spent key seq tries) a b w quiet left is = λ g segment plays. plays_on_one g segment a b w quiet left _ is tt refl refl plays
 refused_keeps tick.Memory a b w quiet left is = λ g segment plays. plays_same g segment a b w quiet left is plays
 
 pub refused_acts : (refusal : TickNo) (a b : Noding) → TickRefused refusal a b → GrowsOwn a.query a.entries b.entries
@@ -243,4 +250,4 @@ refused_acts tick.Memory a b is = grows_same a.query a b is
 pub left_keeps : (answer : Bool) (a b : Noding) (w : Worker) (quiet left : Bool) → left ≡ false → IsDone w → LeftOrNot answer a b → Keeps (station a w quiet left) (station b w quiet answer)
 left_keeps true a b w quiet left stays done is = λ g segment plays. plays_left g segment a b w quiet left is done plays
 left_keeps false a b w quiet left stays done is =
-    λ g segment plays. plays_on_one g segment a b w quiet false _ is.adds tt refl (subst (λ l. Plays g segment (station a w quiet l)) stays plays)
+    λ g segment plays. plays_on_one g segment a b w quiet false _ is.adds tt refl refl (subst (λ l. Plays g segment (station a w quiet l)) stays plays)

@@ -5,6 +5,7 @@ pub mod Sending
 pub mod Growing
 pub mod Starting
 pub mod Ending
+pub mod Faulting
 mod Steps
 mod Running
 pub mod KeyLemmas

@@ -1,7 +1,8 @@
 -- Queries, one behind the other.
-use Rattle.std.proofs.Common.{◌≡◌, ◌≢◌, ℕ, zero, suc, ◌+◌, ◌<◌, ◌≤◌, ℤ, List, [], ◌∷◌, ◌++◌, length, map, set, true, false, Option, Some, None, Result, Ok, Err, slice_get, Contains, option_map, refl, ap, sym, subst, ◌∙◌, arith, inl, inr, ◌⊎◌, length-append}
+use Rattle.std.proofs.Common.{◌≡◌, ◌≢◌, ℕ, zero, suc, ◌+◌, ◌-◌, ◌<◌, ◌≤◌, ℤ, List, [], ◌∷◌, ◌++◌, length, map, set, true, false, Option, Some, None, Result, Ok, Err, slice_get, Contains, option_map, refl, ap, sym, subst, ◌∙◌, arith, inl, inr, ◌⊎◌, length-append, get_or}
+use Rattle.std.specs.Prelude.{slice_index_or, IsSome}
 use Rattle.std.proofs.lemmas.List.{length-map}
-use Rattle.std.proofs.lemmas.Option.{slice_get-map, slice_get_within, get_or_from_slice_get}
+use Rattle.std.proofs.lemmas.Option.{slice_get-map, slice_get_within, slice_get_cases, slice_get-get_or, get_or_from_slice_get}
 use Rattle.std.proofs.lemmas.List.FromFn.{length-map-range_with_len, get_or-map-range_with_len}
 use Rattle.std.proofs.Math.Seq.{map-set_same}
 use Rattle.std.specs.List.{AllByRecursion}
@@ -16,6 +17,7 @@ use Rattle.gd_law.proofs.Answered.{played_is_answered}
 use Rattle.ic_law.specs.Points.{place_at}
 use Rattle.ic_law.specs.History.{left_of}
 use Rattle.ic_law.specs.Streams.{NetworkLaw, history_of}
+use Rattle.gd_node.specs.Calls.{begins_of}
 use Rattle.gd_node.specs.Noding.{Noding, place_of}
 use Rattle.gd_sim.specs.declared.feed.Feed.{Feed}
 use Rattle.gd_sim.specs.declared.fault.SimNo.{SimNo}
@@ -24,16 +26,17 @@ use Rattle.gd_sim.specs.declared.begin.Beginning.{Beginning}
 use Rattle.std.specs.Result.{is_err, OnOk, IsErrAnd}
 use Rattle.gd_sim.specs.declared.run.QueryNo.{QueryNo}
 use Rattle.gd_sim.specs.declared.run.FirstNo.{FirstNo}
-use Rattle.gd_sim.specs.declared.run.FirstNo.TheVariants.{Unfinished}
+use Rattle.gd_sim.specs.declared.run.FirstNo.TheVariants.{Unfinished, Spent, TooLong}
 use Rattle.gd_sim.specs.declared.station.Station.{Station}
 use Rattle.gd_sim.specs.declared.sim.Sim.{Sim}
 use Rattle.gd_sim.specs.Feeding.{part_of, parts_of, IsFeed}
-use Rattle.gd_sim.specs.Run.{AllLeft, HasCause, AnswersFeed, IsRun}
-use Rattle.gd_sim.specs.Playing.{Gather, segment_at, nodes_of, IsSim, WasEmitted, AllGrow, Grows, AreRows}
+use Rattle.gd_sim.specs.Run.{AllLeft, HasCause, IsOfQuery, AnswersFeed, IsRun}
+use Rattle.gd_sim.specs.Playing.{Gather, segment_at, entries_in, nodes_of, IsSim, WasEmitted, AllGrow, Grows, AreRows}
 use Rattle.gd_sim.specs.Stations.{Goes, PlayGoes, CanPlay, HasFault, TellsOver, AreLawful}
 use Rattle.gd_sim.specs.Beginning.{AllBegin, IsNew}
-use Rattle.gd_sim.specs.Runs.{query_fault, Starts, CanStart, Ran, RanOver, RanInto, Ends, IsOver, AreOver, Stands, GoesOn, EndAll, GivesRows}
-use Rattle.gd_sim.proofs.Ending.{grow_more, grows_past, begin_plays, all_play_queries, gatherer_there, played, unleft, left_each, left_on, new_is_sim, session_of}
+use Rattle.gd_sim.specs.Runs.{query_fault, AllServe, Starts, CanStart, Ran, RanOver, RanInto, Ends, IsOver, AreOver, Stands, GoesOn, EndAll, GivesRows}
+use Rattle.gd_sim.proofs.Ending.{grow_more, grows_past, begin_plays, all_play_queries, gatherer_there, played, unleft, left_each, left_on, there, new_is_sim, session_of}
+use Rattle.gd_sim.proofs.Faulting.{Alone, spent_is_of, used_is_of}
 
 -- ---- one query
 
@@ -109,7 +112,9 @@ same_histories xs ys same = through xs ∙ ap (map (λ (n : Noding). n.entries))
 
 -- what a node's place in the session says
 abbrev Placed : ℕ → Settings → ℕ → Noding → Type 0
-Placed session settings k n = (place_of n ≡ place_at session (segment_at k) settings) × ((q : ℕ) → Contains (left_of n.entries) q → q ≤ n.query)
+Placed session settings k n =
+    (place_of n ≡ place_at session (segment_at k) settings) × ((q : ℕ) → Contains (left_of n.entries) q → q ≤ n.query)
+    × ((q : ℕ) → Contains (begins_of n.entries) q → (1 ≤ q) × (q ≤ n.query))
 
 -- the session is the one it was
 pub same_sim : (session segments : ℕ) (settings : Settings) (a b : Sim) → map node_in a.stations.items ≡ map node_in b.stations.items → length b.stations.items ≡ length a.stations.items
@@ -118,8 +123,8 @@ same_sim session segments settings a b same count network is =
     let nodes : nodes_of a.stations.items ≡ nodes_of b.stations.items = same_histories a.stations.items b.stations.items same in
     record {
       count = count ∙ is.count;
-      placed = λ k s at. let it = by_node (λ k n. Placed session settings k n) a.stations.items b.stations.items same (λ k s at. let p = is.placed k s at in (p.place, p.lefts)) k s at in
-          record { place = it.0; lefts = it.1 };
+      placed = λ k s at. let it = by_node (λ k n. Placed session settings k n) a.stations.items b.stations.items same (λ k s at. let p = is.placed k s at in (p.place, p.lefts, p.begun)) k s at in
+          record { place = it.0; lefts = it.1; begun = it.2 };
       network = subst (λ h. NetworkLaw h) nodes is.network;
       kept = subst (λ n. WasEmitted (nodes_of b.stations.items) n) (sym network) (subst (λ h. WasEmitted h a.network) nodes is.kept);
     }
@@ -262,8 +267,12 @@ pub none_more : (session segments rounds : ℕ) (settings : Settings) (loaded : 
     → AreOver session segments settings loaded feeds a lists → place ≡ length lists
     → RanInto rounds (gather_of session segments settings loaded feed (place + 1)) a b fault
     → GoesOn session segments rounds settings loaded feeds b lists lists (Some fault)
-none_more session segments rounds settings loaded feeds a b place feed lists fault are next is =
-    (all_stay session segments settings loaded feeds a b place feed lists are next is.ran, refl, subst (λ n. HasCause rounds (n + 1) (nodes_of b.stations.items) fault) next is.cause)
+none_more session segments rounds settings loaded feeds a b place feed lists fault are next is = (
+  all_stay session segments settings loaded feeds a b place feed lists are next is.ran,
+  refl,
+  subst (λ n. HasCause rounds (n + 1) (nodes_of b.stations.items) fault) next is.cause,
+  λ k station at. is.ran.serve k station at ∙ ap (λ n. n + 1) next,
+)
 
 -- ---- all queries
 
@@ -291,6 +300,59 @@ answers session segments settings loaded feeds s lists checked lawful are place 
       left = is.left;
     }
 
+-- all end with the first fault
+pub end_with : (session segments rounds : ℕ) (settings : Settings) (loaded : List Spread) (feeds : List Feed) (new : Sim) (lists more : List (List (List Value))) (fault : Option FirstNo)
+    → GoesOn session segments rounds settings loaded feeds new lists more fault → IsSome fault → length lists < length feeds → EndAll session segments rounds settings loaded feeds new more fault
+end_with session segments rounds settings loaded feeds new lists more None goes some less = let bad : false ≡ true = some in absurd cc
+end_with session segments rounds settings loaded feeds new lists more (Some fault) goes some less = (
+  goes.0,
+  subst (λ l. length l < length feeds) (sym goes.1) less,
+  subst (λ l. HasCause rounds (length l + 1) (nodes_of new.stations.items) fault) (sym goes.1) goes.2,
+  subst (λ l. AllServe (length l + 1) new.stations.items) (sym goes.1) goes.3,
+)
+
+-- the history of the node at a place, once the queries before this one are over
+alone_at : (session segments : ℕ) (settings : Settings) (loaded : List Spread) (feeds : List Feed) (s : Sim) (lists : List (List (List Value))) (at : ℕ) (station : Station)
+    → AreLawful s.stations.items → AreOver session segments settings loaded feeds s lists → AllServe (length lists + 1) s.stations.items → at < length (nodes_of s.stations.items)
+    → slice_get s.stations.items at ≡ Some station → slice_index_or (nodes_of s.stations.items) at [] ≡ station.node.entries → Alone (place_of station.node) (length lists + 1) station.node.entries
+alone_at session segments settings loaded feeds s lists at station lawful are serve within here is =
+    record {
+      law = (lawful at station here).law;
+      begun = λ n asked. let w = (are.sim.placed at station here).begun n asked in (w.0, subst (λ q. n ≤ q) (serve at station here) w.1);
+      left = λ n least less.
+          let k = n - 1 in
+          let same : k + 1 ≡ n = omega (arith, least) in
+          let there : slice_get lists k ≡ Some (get_or lists k []) = slice_get-get_or lists k [] (omega (arith, least, less)) in
+          subst (λ h. Contains (left_of h) n) is (subst (λ q. Contains (left_of (slice_index_or (nodes_of s.stations.items) at [])) q) same ((are.each k (get_or lists k []) there).left at within));
+    }
+
+-- the connection of a fault is of the query that isn't over
+of_query : (session segments rounds : ℕ) (settings : Settings) (loaded : List Spread) (feeds : List Feed) (s : Sim) (lists : List (List (List Value))) (fault : FirstNo)
+    → AreLawful s.stations.items → AreOver session segments settings loaded feeds s lists → AllServe (length lists + 1) s.stations.items → HasCause rounds (length lists + 1) (nodes_of s.stations.items) fault
+    → IsOfQuery (length lists + 1) fault
+of_query session segments rounds settings loaded feeds s lists (Unfinished n) lawful are serve cause = tt
+of_query session segments rounds settings loaded feeds s lists (Spent key seq tries) lawful are serve cause =
+    let items = s.stations.items in
+    let many : length (nodes_of items) ≡ length items = length-map items entries_in in
+    elim (slice_get_cases items cause.at).1 [
+      | inl w ↦ (
+          let is = there items cause.at w.0 w.2 in
+          spent_is_of (place_of w.0.node) (length lists + 1) w.0.node.entries cause.before key seq tries
+          (alone_at session segments settings loaded feeds s lists cause.at w.0 lawful are serve cause.within w.2 is) (sym is ∙ cause.history))
+      | inr w ↦ (let within = cause.within in absurd (omega (arith, within, many, w.0)))
+    ]
+of_query session segments rounds settings loaded feeds s lists (TooLong key) lawful are serve cause =
+    let items = s.stations.items in
+    let last = cause.last in
+    let many : length (nodes_of items) ≡ length items = length-map items entries_in in
+    elim (slice_get_cases items last.at).1 [
+      | inl w ↦ (
+          let is = there items last.at w.0 w.2 in
+          used_is_of (place_of w.0.node) (length lists + 1) w.0.node.entries last.before cause.entry key cause.which
+          (alone_at session segments settings loaded feeds s lists last.at w.0 lawful are serve last.within w.2 is) (sym is ∙ last.history) cause.ask cause.reply)
+      | inr w ↦ (let within = last.within in absurd (omega (arith, within, many, w.0)))
+    ]
+
 -- a run that ended
 pub is_run : (session segments rounds : ℕ) (settings : Settings) (loaded : List Spread) (feeds : List Feed) (s : Sim) (lists : List (List (List Value))) (fault : Option FirstNo)
     → AreChecked settings → AreLawful s.stations.items → EndAll session segments rounds settings loaded feeds s lists fault
@@ -303,5 +365,5 @@ is_run session segments rounds settings loaded feeds s lists None checked lawful
 is_run session segments rounds settings loaded feeds s lists (Some fault) checked lawful ends = record {
   session_is = (session_of session segments settings s ends.0.sim lawful).0;
   answers = answers session segments settings loaded feeds s lists checked lawful ends.0;
-  ends = (ends.1, ends.2);
+  ends = (ends.1, ends.2, of_query session segments rounds settings loaded feeds s lists fault lawful ends.0 ends.3 ends.2);
 }

@@ -58,6 +58,7 @@ works_none a = record {
   are_of = tt;
   none_came = refl;
   none_left = refl;
+  none_begun = refl;
 }
 
 pub works_once : (a b : Noding) → StepsOnce Works a b → Works a b
@@ -276,11 +277,11 @@ still_here left P stays gone = let bad : false ≡ true = sym stays ∙ gone in 
 pub sent_keeps : (rows : List (List Value)) (a b : Noding) (s t : sending.Scanning) (quiet left : Bool) → left ≡ false → Works a b → SendsOn rows s t a b
     → TurnKeeps rows (station a (Sends s) quiet left) (station b (Sends t) quiet left)
 sent_keeps rows a b s t quiet left stays w sends g segment plays rows_are =
-    plays_on g segment a b (Sends s) (Sends t) quiet left w.more w.place w.query w.ends w.grown w.none_left (λ gone. still_here left _ stays gone)
+    plays_on g segment a b (Sends s) (Sends t) quiet left w.more w.place w.query w.ends w.grown w.none_left w.none_begun (λ gone. still_here left _ stays gone)
     (sent_work rows a b s t sends g segment plays.query rows_are plays.work) plays
 
 pub taken_keeps : (rows : List (List Value)) (a b : Noding) (s t : taking.Gathering) (quiet left : Bool) → left ≡ false → Works a b → TakesOn s t a b
     → TurnKeeps rows (station a (Takes s) quiet left) (station b (Takes t) quiet left)
 taken_keeps rows a b s t quiet left stays w takes g segment plays rows_are =
-    plays_on g segment a b (Takes s) (Takes t) quiet left w.more w.place w.query w.ends w.grown w.none_left (λ gone. still_here left _ stays gone)
+    plays_on g segment a b (Takes s) (Takes t) quiet left w.more w.place w.query w.ends w.grown w.none_left w.none_begun (λ gone. still_here left _ stays gone)
     (taken_work a b s t takes g segment plays.query (plays.ends stays) plays.work) plays

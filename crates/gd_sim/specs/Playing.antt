@@ -17,6 +17,7 @@ use Rattle.gd_work.specs.Sending.{Scanning, Scans}
 use Rattle.gd_work.specs.Taking.{Gathering, Gathers, parcels_of}
 use Rattle.gd_log.specs.Logs.{log_of, IsOf}
 use Rattle.gd_node.specs.Noding.{place_of}
+use Rattle.gd_node.specs.Calls.{begins_of}
 use Rattle.gd_law.specs.Answers.{gather_key, gather_end}
 use Rattle.gd_law.specs.Playing.{IsFromOne}
 use Rattle.gd_sim.specs.declared.station.Worker.{Worker}
@@ -90,6 +91,8 @@ pub record IsPlaced (session : ℕ) (segment : ℤ) (settings : Settings) (s : S
   pub place : place_of s.node ≡ place_at session segment settings
   -- it left no query but those up to its last
   pub lefts : (n : ℕ) → Contains (left_of s.node.entries) n → n ≤ s.node.query
+  -- and was asked to begin none but these, from 1 on
+  pub begun : (n : ℕ) → Contains (begins_of s.node.entries) n → (1 ≤ n) × (n ≤ s.node.query)
 
 -- a station that serves the query; some segment sends
 pub record Plays (g : Gather) (segment : ℤ) (s : Station) : Type 0 where

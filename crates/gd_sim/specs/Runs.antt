@@ -106,10 +106,11 @@ pub record Stands (session segments : ℕ) (settings : Settings) (loaded : List 
 abbrev pub GoesOn : (session segments rounds : ℕ) → Settings → List Spread → List Feed → (new : Sim) → (lists more : List (List (List Value))) → Option FirstNo → Type 0
 GoesOn session segments rounds settings loaded feeds new lists more None = Stands session segments settings loaded feeds new more × (length more ≡ length lists + 1)
 GoesOn session segments rounds settings loaded feeds new lists more (Some fault) =
-    AreOver session segments settings loaded feeds new more × (more ≡ lists) × HasCause rounds (length lists + 1) (nodes_of new.stations.items) fault
+    AreOver session segments settings loaded feeds new more × (more ≡ lists) × HasCause rounds (length lists + 1) (nodes_of new.stations.items) fault × AllServe (length lists + 1) new.stations.items
 
 -- All queries are over; or one isn't, for this cause.
 abbrev pub EndAll : (session segments rounds : ℕ) → Settings → List Spread → List Feed → (new : Sim) → (lists : List (List (List Value))) → Option FirstNo → Type 0
 EndAll session segments rounds settings loaded feeds new lists None = AreOver session segments settings loaded feeds new lists × (length lists ≡ length feeds)
 EndAll session segments rounds settings loaded feeds new lists (Some fault) =
     AreOver session segments settings loaded feeds new lists × (length lists < length feeds) × HasCause rounds (length lists + 1) (nodes_of new.stations.items) fault
+    × AllServe (length lists + 1) new.stations.items

@@ -39,7 +39,7 @@ invariant_of-self-2 c =
 pub returns-clause-steps : goal.returns-clause-steps
 returns-clause-steps c =
     subst (λ (m : Noding). Works m (after (the_view c.self.inside) c.halt-answer.new.self c.self.inside.query c.self.inside.ends.items c.note.new.entries.items)) c.self.view_is
-    (notes_works (the_view c.self.inside) c.halt-answer.new.self c.note.new.entries.items (Halt c.key_from-key.result) (gave_of c.halt-answer.result) (notes c) (ap (λ (k : ConnKey). k.query) (key_is c)) refl refl)
+    (notes_works (the_view c.self.inside) c.halt-answer.new.self c.note.new.entries.items (Halt c.key_from-key.result) (gave_of c.halt-answer.result) (notes c) (ap (λ (k : ConnKey). k.query) (key_is c)) refl refl refl)
 
 pub returns-clause-log : goal.returns-clause-log
 returns-clause-log c =

@@ -46,7 +46,7 @@ invariant_of-self-2 c =
 pub returns-clause-steps : goal.returns-clause-steps
 returns-clause-steps c =
     subst (λ (m : Noding). Works m (after (the_view c.self.inside) c.take-answer.new.self c.self.inside.query c.self.inside.ends.items c.note.new.entries.items)) c.self.view_is
-    (notes_works (the_view c.self.inside) c.take-answer.new.self c.note.new.entries.items (Take c.self.inside.query c.args.motion) (took_of c.take-answer.result) (notes c) refl refl refl)
+    (notes_works (the_view c.self.inside) c.take-answer.new.self c.note.new.entries.items (Take c.self.inside.query c.args.motion) (took_of c.take-answer.result) (notes c) refl refl refl refl)
 
 pub returns-clause-log : goal.returns-clause-log
 returns-clause-log c =

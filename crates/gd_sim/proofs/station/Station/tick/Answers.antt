@@ -5,7 +5,7 @@ use Rattle.gd_sim.proofs.station.Station.tick.Goals as goal
 pub returns-in-Ok-clause-keeps : goal.returns-in-Ok-clause-keeps
 returns-in-Ok-clause-keeps c =
     let s = c.args.self.now in
-    λ g segment plays. plays_on_one g segment s.node c.tick.new.self s.worker s.quiet s.left _ c.in-Ok.ensures.ok.adds tt refl plays
+    λ g segment plays. plays_on_one g segment s.node c.tick.new.self s.worker s.quiet s.left _ c.in-Ok.ensures.ok.adds tt refl refl plays
 
 pub returns-in-Err-clause-keeps : goal.returns-in-Err-clause-keeps
 returns-in-Err-clause-keeps c =
