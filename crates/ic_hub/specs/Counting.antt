@@ -58,11 +58,14 @@ pub record IsCountOfSender (o : OutgoingState) (n : Counts) : Type 0 where
   pub rows : n.rows ≡ o.rows
   pub packets : n.packets ≡ o.sending.sent
   pub resent : n.resent ≡ o.sending.resent
+  pub whole : n.whole ≡ false
   pub tells : (h : List Entry) → SenderStands o h → AreCountsSent o.sending.end.key h n
 
 -- what a receiver counts
 pub record IsCountOfReceiver (r : Receiving) (n : Counts) : Type 0 where
   pub rows : n.rows ≡ r.rows
+  pub packets : n.packets ≡ 0
+  pub resent : n.resent ≡ 0
   pub whole : n.whole ≡ r.whole
   pub tells : (settings : Settings) (h : List Entry) → ReceiverStands settings r h → AreCountsTaken r.end.key h n
 

@@ -6,6 +6,7 @@ returns c = record {
   rows = c.rows.ensures.value;
   packets = c.sent.ensures.value;
   resent = c.resent.ensures.value;
+  whole = refl;
   tells = λ h stands. record {
     rows = λ rows sent. c.rows.ensures.tells h rows stands sent;
     packets = sym (c.sent.ensures.tells h stands);
