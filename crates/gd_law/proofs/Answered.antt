@@ -20,7 +20,7 @@ use Rattle.gd_work.specs.Taking.{parcels_of}
 use Rattle.gd_work.specs.Laws.{Gave}
 use Rattle.gd_work.proofs.Whole.{puts_all}
 use Rattle.gd_work.proofs.Interleaving.{lets_out_all}
-use Rattle.gd_log.specs.Logs.{log_of}
+use Rattle.ic_law.specs.Logs.{log_of}
 use Rattle.gd_law.specs.Sessions.{IsSession}
 use Rattle.gd_law.specs.Answers.{gather_key, IsServed}
 use Rattle.gd_law.specs.Playing.{AreAllOurs, IsFromOne, IsPlayed}

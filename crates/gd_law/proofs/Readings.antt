@@ -29,7 +29,7 @@ use Rattle.ic_law.specs.Receiving.{AnswersTake, Over, None as NothingNext, Taken
 use Rattle.ic_law.specs.Hub.{HubPoint, HubLaw}
 use Rattle.gd_work.specs.Sending as sending
 use Rattle.gd_work.specs.Taking as taking
-use Rattle.gd_log.specs.Logs.{put_logs, take_logs, halt_logs, logs_by, logs, log_of, IsOurs}
+use Rattle.ic_law.specs.Logs.{put_logs, take_logs, halt_logs, logs_by, logs, log_of, IsOurs}
 use Rattle.gd_law.specs.Laws.{PutsAgree, TakesAgree}
 
 -- ---- keys with one side in common

@@ -9,8 +9,8 @@ use Rattle.ic_law.specs.Streams.{history_of}
 use Rattle.ic_law.proofs.Lists.{flat_map-append, list_any-append}
 use Rattle.gd_work.specs.Sending.{Scans}
 use Rattle.gd_work.specs.Taking.{parcels_of as log_parcels, LetsOut}
-use Rattle.gd_log.specs.Logs.{log_of}
-use Rattle.gd_log.proofs.Logs.{others_pass}
+use Rattle.ic_law.specs.Logs.{log_of}
+use Rattle.ic_law.proofs.LogLemmas.{others_pass}
 use Rattle.gd_law.specs.Answers.{gather_key}
 use Rattle.gd_law.specs.Playing.{IsSent, IsFromOne, IsTaken, GrowsPast}
 use Rattle.gd_law.specs.Laws.{PlayedStays}

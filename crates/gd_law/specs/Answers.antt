@@ -9,7 +9,7 @@ use Rattle.ic_law.specs.History.{chunks_put_of, IsFinished, IsWhole}
 use Rattle.ic_law.specs.Streams.{history_of, AreSent, AreTaken}
 use Rattle.gd_work.specs.Sending.{cut}
 use Rattle.gd_work.specs.Taking.{parcels_of, LetsOut}
-use Rattle.gd_log.specs.Logs.{log_of}
+use Rattle.ic_law.specs.Logs.{log_of}
 
 -- ---- connections of a gather
 

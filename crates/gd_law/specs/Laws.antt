@@ -10,7 +10,7 @@ use Rattle.ic_law.specs.History.{chunks_put_of, payloads_of, IsFinished, IsWhole
 use Rattle.ic_law.specs.Streams.{NetworkLaw, history_of}
 use Rattle.gd_work.specs.Sending as sending
 use Rattle.gd_work.specs.Taking.{parcels_of, payloads_from}
-use Rattle.gd_log.specs.Logs.{log_of}
+use Rattle.ic_law.specs.Logs.{log_of}
 use Rattle.gd_law.specs.Sessions.{IsSession}
 use Rattle.gd_law.specs.Answers.{IsAnswered}
 use Rattle.gd_law.specs.Playing.{AreOurs, AreAllOurs, IsPlayed, AllGrowPast}

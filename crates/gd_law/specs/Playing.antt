@@ -10,7 +10,7 @@ use Rattle.ic_law.specs.History.{IsWhole}
 use Rattle.ic_law.specs.Streams.{history_of}
 use Rattle.gd_work.specs.Sending.{Scanning, Scans}
 use Rattle.gd_work.specs.Taking.{parcels_of, LetsOut}
-use Rattle.gd_log.specs.Logs.{log_of, IsOf, IsOurs}
+use Rattle.ic_law.specs.Logs.{log_of, IsOf, IsOurs}
 use Rattle.gd_law.specs.Answers.{gather_key}
 
 -- ---- asks

@@ -4,7 +4,7 @@
 //! All is read from the nodes' histories. Whoever runs the nodes keeps `IsPlayed` of each query that is over, and the laws
 //! give `IsAnswered` at the end.
 //!
-//! Below: `ic_law` for the law of hubs, `gd_work` for what workers do, `gd_log` for their logs. Above: whoever runs a
+//! Below: `ic_law` for the law of hubs, `gd_work` for what workers do, `ic_law` for their logs. Above: whoever runs a
 //! session.
 #![tactic(auto)]
 

@@ -9,8 +9,8 @@ use Rattle.ic_law.specs.History.{puts, takes, emits, rows_in, number_of, greates
 use Rattle.ic_law.specs.Packets.{RowPacket}
 use Rattle.ic_base.specs.declared.keys.ConnKey.{ConnKey}
 use Rattle.ic_base.specs.declared.datagram.Datagram.{Datagram}
-use Rattle.ic_tally.specs.Counts.{HaveEnded}
-use Rattle.ic_tally.proofs.Ended.{have_both}
+use Rattle.ic_chunk.specs.Counts.{HaveEnded}
+use Rattle.ic_chunk.proofs.Ended.{have_both}
 
 pub next_taken : {A : Type 0} (xs : List A) (i : ℕ) (x : A) → i < length xs → x ≡ get_or xs i x → take (i + 1) xs ≡ take i xs ++ x ∷ []
 next_taken xs i x lt is = take_more xs i x lt ∙ ap (λ y. take i xs ++ y ∷ []) (sym is)

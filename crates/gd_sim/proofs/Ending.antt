@@ -32,9 +32,9 @@ use Rattle.gd_work.specs.declared.course.Course.{Course}
 use Rattle.gd_work.specs.declared.course.Course.TheVariants.{Going, Done}
 use Rattle.gd_work.specs.Sending.{Scans}
 use Rattle.gd_work.specs.Taking.{Gathering, Gathers, parcels_of, LetsOut}
-use Rattle.gd_log.specs.Logs.{halt_logs, logs_by, logs, log_of, IsOf, IsOurs}
-use Rattle.gd_node.specs.Calls.{begins as asked_begins, begins_of}
-use Rattle.gd_node.specs.Noding.{Noding, place_of}
+use Rattle.ic_law.specs.Logs.{halt_logs, logs_by, logs, log_of, IsOf, IsOurs}
+use Rattle.ic_port.specs.Calls.{begins as asked_begins, begins_of}
+use Rattle.ic_port.specs.Noding.{Noding, place_of}
 use Rattle.gd_law.specs.Sessions.{IsSession}
 use Rattle.gd_law.specs.Answers.{gather_key}
 use Rattle.gd_law.specs.Playing.{AreAllOurs, IsSent, IsFromOne, IsPlayed, AllGrowPast}

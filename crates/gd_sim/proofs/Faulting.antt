@@ -18,8 +18,8 @@ use Rattle.ic_law.specs.Arriving.{AnswersBegin, IsOldOne, IsTwice, IsNew, IsUnkn
 use Rattle.ic_law.specs.Emission.{Timer, packets_spent, query_spent, spent_of}
 use Rattle.ic_law.specs.Hub.{HubLaw, HubPoint}
 use Rattle.ic_law.proofs.Lists.{Contains-none, Contains-head, Contains-one, Contains-middle, map-Contains, flat_map-append, Contains-flat_map, flat_map-Contains}
-use Rattle.ic_ends.proofs.Lives.{live_push}
-use Rattle.gd_node.specs.Calls.{begins, begins_of}
+use Rattle.ic_hub_laws.proofs.Lives.{live_push}
+use Rattle.ic_port.specs.Calls.{begins, begins_of}
 use Rattle.gd_sim.specs.Run.{PutsOn}
 
 -- ---- one live query

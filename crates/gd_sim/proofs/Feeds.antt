@@ -18,10 +18,10 @@ use Rattle.pl_plan.specs.Tests.{is_missing}
 use Rattle.pl_plan.specs.Rules.{Given}
 use Rattle.pl_plan.specs.Soundness.{IsSound}
 use Rattle.pl_plan.specs.Kept.{IsJudged, given_of}
-use Rattle.pl_rows.specs.declared.loaded.Spread.{Spread}
-use Rattle.pl_rows.specs.Rows.{Line}
-use Rattle.pl_rows.specs.Placed.{rows_at}
-use Rattle.pl_rows.specs.Fitting.{stands_at, placed_at, IsOfKind, IsRowOf, Fits}
+use Rattle.pl_ops.specs.declared.loaded.Spread.{Spread}
+use Rattle.pl_ops.specs.Rows.{Line}
+use Rattle.pl_ops.specs.Placed.{rows_at}
+use Rattle.pl_ops.specs.Fitting.{stands_at, placed_at, IsOfKind, IsRowOf, Fits}
 use Rattle.gd_sim.specs.declared.feed.Feed.{Feed}
 use Rattle.gd_sim.specs.Feeding.{part_of, IsFeed}
 use Rattle.gd_sim.specs.Plans.{scanned, gathered, is_some, is_gather, senders_of, feed_from, feed_named, feed_of, before, feeds_of}

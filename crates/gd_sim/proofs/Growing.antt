@@ -17,8 +17,8 @@ use Rattle.ic_law.proofs.Lists.{flat_map-append, Contains-flat_map, Contains-non
 use Rattle.gd_net.specs.declared.network.Received.TheVariants.{Came}
 use Rattle.gd_net.specs.Network.{Net, with_hand, Receives}
 use Rattle.gd_work.specs.declared.course.Turned.{Turned}
-use Rattle.gd_log.specs.Logs.{IsOf}
-use Rattle.gd_node.specs.Noding.{Noding, place_of, IsLawful}
+use Rattle.ic_law.specs.Logs.{IsOf}
+use Rattle.ic_port.specs.Noding.{Noding, place_of, IsLawful}
 use Rattle.gd_sim.specs.declared.station.Station.{Station}
 use Rattle.gd_sim.specs.declared.sim.Sim.{Sim}
 use Rattle.gd_sim.specs.declared.fault.SimNo.{SimNo}

@@ -19,12 +19,12 @@ use Rattle.ic_hub.specs.Calls.{SamePlace}
 use Rattle.gd_work.specs.Sending.{Scanning, Scans}
 use Rattle.gd_work.specs.Taking.{Gathering, Gathers}
 use Rattle.gd_work.specs.Taking.{parcels_of as log_parcels}
-use Rattle.gd_log.specs.Logs.{logs_by, log_of, IsOf}
-use Rattle.gd_log.proofs.Logs.{log_grows}
+use Rattle.ic_law.specs.Logs.{logs_by, log_of, IsOf}
+use Rattle.ic_law.proofs.LogLemmas.{log_grows}
 use Rattle.gd_law.specs.Answers.{gather_key}
 use Rattle.gd_law.specs.Playing.{IsFromOne}
-use Rattle.gd_node.specs.Noding.{Noding}
-use Rattle.gd_node.specs.Calls.{begins, begins_of, Adds, Arrives, TickRefused, Leaves, LeftOrNot}
+use Rattle.ic_port.specs.Noding.{Noding}
+use Rattle.ic_port.specs.Calls.{begins, begins_of, Adds, Arrives, TickRefused, Leaves, LeftOrNot}
 use Rattle.gd_sim.specs.declared.station.Worker.{Worker}
 use Rattle.gd_sim.specs.declared.station.Worker.TheVariants.{Rests, Sends, Takes}
 use Rattle.gd_sim.specs.declared.station.Station.{Station}

@@ -9,16 +9,16 @@ use Rattle.std.specs.List.{AllByRecursion}
 use Rattle.ic_base.specs.declared.settings.Settings.{Settings}
 use Rattle.ic_base.specs.Settings.{AreChecked}
 use Rattle.ic_row.specs.declared.value.Value.{Value}
-use Rattle.pl_rows.specs.declared.loaded.Spread.{Spread}
-use Rattle.pl_rows.specs.Placed.{rows_at}
+use Rattle.pl_ops.specs.declared.loaded.Spread.{Spread}
+use Rattle.pl_ops.specs.Placed.{rows_at}
 use Rattle.gd_law.specs.Playing.{IsPlayed}
 use Rattle.gd_law.proofs.Staying.{played_stays}
 use Rattle.gd_law.proofs.Answered.{played_is_answered}
 use Rattle.ic_law.specs.Points.{place_at}
 use Rattle.ic_law.specs.History.{left_of}
 use Rattle.ic_law.specs.Streams.{NetworkLaw, history_of}
-use Rattle.gd_node.specs.Calls.{begins_of}
-use Rattle.gd_node.specs.Noding.{Noding, place_of}
+use Rattle.ic_port.specs.Calls.{begins_of}
+use Rattle.ic_port.specs.Noding.{Noding, place_of}
 use Rattle.gd_sim.specs.declared.feed.Feed.{Feed}
 use Rattle.gd_sim.specs.declared.fault.SimNo.{SimNo}
 use Rattle.gd_sim.specs.declared.fault.SimNo.TheVariants as no_of

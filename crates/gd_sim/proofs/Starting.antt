@@ -10,9 +10,9 @@ use Rattle.ic_base.specs.declared.settings.Settings.{Settings}
 use Rattle.ic_law.specs.Points.{Place}
 use Rattle.ic_law.specs.Asking.{AreEnds}
 use Rattle.ic_law.proofs.Lists.{Contains-none, Contains-one, map-Contains, get_push}
-use Rattle.ic_ends.proofs.Beside.{set_cases}
+use Rattle.ic_hub_laws.proofs.Beside.{set_cases}
 use Rattle.gd_law.specs.Answers.{gather_end}
-use Rattle.gd_node.specs.Noding.{fresh}
+use Rattle.ic_port.specs.Noding.{fresh}
 use Rattle.gd_sim.specs.declared.station.Station.{Station}
 use Rattle.gd_sim.specs.declared.begin.Beginning.{Beginning}
 use Rattle.gd_sim.specs.Playing.{segment_at, ends_here}

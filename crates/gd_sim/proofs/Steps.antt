@@ -1,7 +1,7 @@
 -- Steps behind each other.
 use Rattle.std.proofs.Common.{◌≡◌, ℤ, List, true}
 use Rattle.ic_row.specs.declared.value.Value.{Value}
-use Rattle.gd_node.specs.Noding.{IsLawful}
+use Rattle.ic_port.specs.Noding.{IsLawful}
 use Rattle.gd_sim.specs.declared.station.Station.{Station}
 use Rattle.gd_sim.specs.declared.sim.Sim.{Sim}
 use Rattle.gd_sim.specs.Playing.{Gather, AllPlay}

@@ -33,12 +33,12 @@ use Rattle.gd_work.specs.declared.course.WorkNo.TheVariants as work
 use Rattle.gd_work.specs.Turns.{course_behind, StepsOnce}
 use Rattle.gd_work.specs.Sending as sending
 use Rattle.gd_work.specs.Taking as taking
-use Rattle.gd_log.specs.Logs.{log_of}
-use Rattle.gd_log.proofs.Logs.{log_grows}
+use Rattle.ic_law.specs.Logs.{log_of}
+use Rattle.ic_law.proofs.LogLemmas.{log_grows}
 use Rattle.gd_law.specs.Answers.{gather_key, gather_end}
 use Rattle.gd_law.specs.Playing.{IsFromOne}
-use Rattle.gd_node.specs.Noding.{Noding, IsLawful}
-use Rattle.gd_node.specs.Calls.{Works}
+use Rattle.ic_port.specs.Noding.{Noding, IsLawful}
+use Rattle.ic_port.specs.Calls.{Works}
 use Rattle.gd_sim.specs.declared.station.Worker.TheVariants.{Sends, Takes}
 use Rattle.gd_sim.specs.Playing.{Gather, senders, ends_at, SendsPart, WorkStands}
 use Rattle.gd_sim.specs.Stations.{EndsSo, EndsUsedUp, AreRowsAt, TurnKeeps, SendsOn, TakesOn, work_fault}

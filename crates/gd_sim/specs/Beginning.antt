@@ -7,8 +7,8 @@ use Rattle.gd_net.specs.Network.{fresh as fresh_net}
 use Rattle.gd_work.specs.declared.course.Course.TheVariants.{Going}
 use Rattle.gd_work.specs.Sending.{Scanning, Scans}
 use Rattle.gd_work.specs.Taking.{Gathering, Gathers}
-use Rattle.gd_node.specs.Noding.{fresh as fresh_node}
-use Rattle.gd_node.specs.Calls.{Begins}
+use Rattle.ic_port.specs.Noding.{fresh as fresh_node}
+use Rattle.ic_port.specs.Calls.{Begins}
 use Rattle.gd_sim.specs.declared.station.Worker.{Worker}
 use Rattle.gd_sim.specs.declared.station.Worker.TheVariants.{Rests, Sends, Takes}
 use Rattle.gd_sim.specs.declared.station.Station.{Station}

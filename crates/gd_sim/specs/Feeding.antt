@@ -3,8 +3,8 @@ use Rattle.std.specs.Prelude.{ℕ, ◌<◌, ◌≤◌, pos, List, map}
 use Rattle.std.specs.List.{All, range_with_len}
 use Rattle.ic_row.specs.declared.value.Value.{Value}
 use Rattle.ic_row.specs.Spelling.{HasLengths}
-use Rattle.pl_rows.specs.declared.loaded.Spread.{Spread}
-use Rattle.pl_rows.specs.Placed.{rows_at}
+use Rattle.pl_ops.specs.declared.loaded.Spread.{Spread}
+use Rattle.pl_ops.specs.Placed.{rows_at}
 use Rattle.gd_sim.specs.declared.feed.Feed.{Feed}
 
 -- the rows of the feed's table at a segment

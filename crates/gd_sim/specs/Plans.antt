@@ -7,8 +7,8 @@ use Rattle.pl_tree.specs.declared.schema.Placing.TheVariants.{Keyed, Dealt, Ever
 use Rattle.pl_tree.specs.Trees.{Tree, Scan, Gather, tree_in}
 use Rattle.pl_tree.specs.Columns.{same_text}
 use Rattle.pl_plan.specs.declared.sound.Judged.{Judged}
-use Rattle.pl_rows.specs.declared.loaded.Spread.{Spread}
-use Rattle.pl_rows.specs.Fitting.{Fits}
+use Rattle.pl_ops.specs.declared.loaded.Spread.{Spread}
+use Rattle.pl_ops.specs.Fitting.{Fits}
 use Rattle.gd_sim.specs.declared.feed.Feed.{Feed}
 use Rattle.gd_sim.specs.declared.run.FirstRun.{FirstRun}
 use Rattle.gd_sim.specs.Run.{IsRun}

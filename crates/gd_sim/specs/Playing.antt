@@ -15,9 +15,9 @@ use Rattle.gd_net.specs.Network.{Net}
 use Rattle.gd_work.specs.declared.course.Course.TheVariants.{Done}
 use Rattle.gd_work.specs.Sending.{Scanning, Scans}
 use Rattle.gd_work.specs.Taking.{Gathering, Gathers, parcels_of}
-use Rattle.gd_log.specs.Logs.{log_of, IsOf}
-use Rattle.gd_node.specs.Noding.{place_of}
-use Rattle.gd_node.specs.Calls.{begins_of}
+use Rattle.ic_law.specs.Logs.{log_of, IsOf}
+use Rattle.ic_port.specs.Noding.{place_of}
+use Rattle.ic_port.specs.Calls.{begins_of}
 use Rattle.gd_law.specs.Answers.{gather_key, gather_end}
 use Rattle.gd_law.specs.Playing.{IsFromOne}
 use Rattle.gd_sim.specs.declared.station.Worker.{Worker}

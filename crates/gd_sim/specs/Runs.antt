@@ -2,7 +2,7 @@
 use Rattle.std.specs.Prelude.{◌≡◌, ℕ, ◌+◌, ◌<◌, ◌≤◌, ℤ, List, length, Option, Some, None, Result, Ok, Err, slice_get}
 use Rattle.ic_base.specs.declared.settings.Settings.{Settings}
 use Rattle.ic_row.specs.declared.value.Value.{Value}
-use Rattle.pl_rows.specs.declared.loaded.Spread.{Spread}
+use Rattle.pl_ops.specs.declared.loaded.Spread.{Spread}
 use Rattle.gd_work.specs.Taking.{Gathering}
 use Rattle.gd_law.specs.Playing.{IsPlayed}
 use Rattle.gd_sim.specs.declared.begin.Beginning.{Beginning}

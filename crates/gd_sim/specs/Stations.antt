@@ -17,7 +17,7 @@ use Rattle.gd_work.specs.declared.course.WorkNo.{WorkNo}
 use Rattle.gd_work.specs.declared.course.WorkNo.TheVariants as work
 use Rattle.gd_work.specs.Sending.{Scanning}
 use Rattle.gd_work.specs.Taking.{Gathering}
-use Rattle.gd_node.specs.Noding.{Noding, IsLawful}
+use Rattle.ic_port.specs.Noding.{Noding, IsLawful}
 use Rattle.gd_sim.specs.declared.fault.SimNo.{SimNo}
 use Rattle.gd_sim.specs.declared.fault.SimNo.TheVariants as sim
 use Rattle.gd_sim.specs.declared.station.Station.{Station}

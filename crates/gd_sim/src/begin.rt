@@ -3,14 +3,14 @@ ghost use Rattle.std.specs.Prelude.{◌≡◌, ◌<◌, ◌≤◌, ◌+◌, ◌�
 ghost use Rattle.std.specs.List.{range_with_len};
 ghost use Rattle.ic_base.specs.Settings.{AreChecked};
 ghost use Rattle.gd_law.specs.Answers.{gather_end};
-ghost use Rattle.gd_node.specs.Noding.{fresh};
+ghost use Rattle.ic_port.specs.Noding.{fresh};
 ghost use Rattle.gd_sim.specs.Beginning.{ends_of, IsBeginning, IsFreshScanner, IsFreshWorker, BeginsAt, CanBeginAt, CanBegin, AllBegin, IsNew};
 
 use crate::fault::SimNo;
 use crate::sim::Sim;
 use crate::station::{Station, Worker};
 use gd_net::Network;
-use gd_node::Node;
+use ic_port::Node;
 use gd_work::{Gatherer, Scanner};
 use ic_base::{ConnEnd, ConnKey, Drops, SegId, Settings};
 use std::alloc::{AllocError, Global};

@@ -4,9 +4,9 @@
 //! A program calls [`first_run`] once, with sound plans and the loaded tables, and reads the tallies of a query that is
 //! over from the histories by [`tallies_of`].
 //!
-//! Read first: `specs/Run.antt`, what a run is; then `specs/Playing.antt`, what stands while a query plays. Below: `gd_node`
+//! Read first: `specs/Run.antt`, what a run is; then `specs/Playing.antt`, what stands while a query plays. Below: `ic_port`
 //! for hubs with their histories, `gd_work` for workers, `gd_net` for the network, `gd_law` for what histories tell,
-//! `pl_plan` and `pl_rows` for plans and rows. Above: the program.
+//! `pl_plan` and `pl_ops` for plans and rows. Above: the program.
 #![tactic(auto)]
 
 mod begin;

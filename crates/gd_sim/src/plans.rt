@@ -11,7 +11,7 @@ use crate::feed::Feed;
 use crate::run::{FirstRun, run_feeds};
 use ic_base::{Drops, Settings, Text};
 use pl_plan::{Node, Placing, Schema, SoundPlan};
-use pl_rows::Loaded;
+use pl_ops::Loaded;
 use std::alloc::{AllocError, Global};
 use std::marker::Model;
 

@@ -1,12 +1,12 @@
 // The rounds in which a query goes on.
 ghost use Rattle.std.specs.Prelude.{◌≡◌, ◌<◌, length, IfErr, IfOk, true};
-ghost use Rattle.pl_rows.specs.Placed.{rows_at};
+ghost use Rattle.pl_ops.specs.Placed.{rows_at};
 ghost use Rattle.gd_sim.specs.Playing.{nodes_of};
 ghost use Rattle.gd_sim.specs.Stations.{CanPlay, PlayGoes, AllGoes, HasFault, TellsOver};
 
 use crate::fault::SimNo;
 use crate::sim::Sim;
-use pl_rows::Loaded;
+use pl_ops::Loaded;
 use std::alloc::{AllocError, Global};
 
 /// How many turns a worker takes in one round at most.

@@ -2,7 +2,7 @@
 ghost use Rattle.std.specs.Prelude.{◌≡◌, ◌<◌, ◌≤◌, [], length, IfOk};
 ghost use Rattle.std.specs.List.{AllByRecursion};
 ghost use Rattle.ic_base.specs.Settings.{AreChecked};
-ghost use Rattle.pl_rows.specs.Placed.{rows_at};
+ghost use Rattle.pl_ops.specs.Placed.{rows_at};
 ghost use Rattle.gd_sim.specs.Feeding.{IsFeed};
 ghost use Rattle.gd_sim.specs.Run.{IsRun};
 ghost use Rattle.gd_sim.specs.Playing.{Gather, nodes_of};
@@ -18,7 +18,7 @@ use crate::station::Worker;
 use ic_base::{ConnKey, Drops, Settings};
 use ic_law::Histories;
 use ic_row::Rows;
-use pl_rows::Loaded;
+use pl_ops::Loaded;
 use std::alloc::{AllocError, Global};
 use std::marker::Model;
 use std::mem;

@@ -1,6 +1,6 @@
 // All nodes and the network between them, one call of a node at a time.
 ghost use Rattle.std.specs.Prelude.{◌≡◌, ◌<◌, [], ◌∷◌, length, drop, slice_index_or, Err, IfErr};
-ghost use Rattle.pl_rows.specs.Placed.{rows_at};
+ghost use Rattle.pl_ops.specs.Placed.{rows_at};
 ghost use Rattle.gd_sim.specs.Playing.{nodes_of};
 ghost use Rattle.gd_sim.specs.Stations.{KeepsOrEmitted, CanPlay, PlayGoes, AllGoes, HasFault, IsLawfulAt};
 
@@ -9,7 +9,7 @@ use crate::station::Station;
 use gd_net::{Network, Received};
 use gd_work::Turned;
 use ic_law::Entry;
-use pl_rows::Loaded;
+use pl_ops::Loaded;
 use std::alloc::{AllocError, Global};
 
 /// The stations of the dispatcher, of segment 0 and so on, and the network between them.

@@ -4,12 +4,12 @@ ghost use Rattle.std.specs.List.{All};
 ghost use Rattle.ic_base.specs.Ports.{SendsTo};
 ghost use Rattle.ic_base.specs.Ports.{Hears as HearsSome};
 ghost use Rattle.ic_row.specs.Spelling.{HasLengths};
-ghost use Rattle.gd_node.specs.Calls.{Works};
+ghost use Rattle.ic_port.specs.Calls.{Works};
 ghost use Rattle.gd_sim.specs.Playing.{IsDone};
 ghost use Rattle.gd_sim.specs.Stations.{CanTurn, TurnKeeps, Keeps, Acts, SendsOn, TakesOn, Hears, EndsSo};
 
 use crate::fault::{SimNo, tick_fault, work_fault};
-use gd_node::Node;
+use ic_port::Node;
 use gd_work::{Course, Gatherer, Scanner, Turned};
 use ic_base::Datagram;
 use ic_row::Row;

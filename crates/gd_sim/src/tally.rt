@@ -7,13 +7,13 @@ ghost use Rattle.ic_base.specs.Keys.{key_eq};
 ghost use Rattle.ic_law.specs.Packets.{key_of, is_rows, IsSegment};
 ghost use Rattle.ic_law.specs.History.{puts, was_given, takes, parcels_in, parcels_from, rows_in, number_of, chunks_put_of, payloads_of, payload_in, is_last_parcel, rows_emitted_of, sent_upto, greatest, whole_of};
 ghost use Rattle.ic_law.specs.Streams.{history_of};
-ghost use Rattle.ic_tally.specs.Counts.{HaveEnded};
+ghost use Rattle.ic_chunk.specs.Counts.{HaveEnded};
 ghost use Rattle.gd_sim.specs.Tallying.{IsTallyOf, AreTallies};
 
 use ic_base::{ConnKey, Datagram, Parcel, SegId};
 use ic_header::{Flags, Header, read};
 use ic_law::{Entry, Histories, HubAsk, HubReply};
-use ic_tally::rows_ended;
+use ic_chunk::rows_ended;
 use std::alloc::{AllocError, Global};
 use std::marker::Model;
 

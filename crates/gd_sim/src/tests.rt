@@ -7,7 +7,7 @@ ghost use Rattle.gd_sim.specs.Feeding.{IsFeed};
 use crate::{Feed, FirstNo, FirstRun, run_feeds};
 use ic_base::{Drops, Settings};
 use ic_row::{Row, Rows, Value};
-use pl_rows::{Loaded, Spread};
+use pl_ops::{Loaded, Spread};
 use sqlite_items::Items;
 use std::alloc::{AllocError, Global};
 use std::test::*;

@@ -12,3 +12,4 @@ pub mod Fronts
 pub mod OneWay
 pub mod Standings
 pub mod CutLaws
+pub mod Ended

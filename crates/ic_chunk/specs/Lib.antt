@@ -6,3 +6,5 @@ pub mod Joining
 pub mod Laws
 pub mod Seen
 pub mod Drafts
+pub mod Counts
+pub mod CountLaws

@@ -5,10 +5,16 @@
 //! A receiver keeps one [`Joiner`] for each sender, and feeds it the payloads in the order of their packets: `feed`
 //! gives the rows that are whole now.
 //!
+//! Each end of a connection counts the rows that it puts or takes, with no row read and no byte copied: [`count_more`]
+//! adds those that end in one payload to a count of 64 bits, which stays at its greatest value. [`rows_ended`] is the
+//! number in one payload.
+//!
 //! Below: `ic_row`, `ic_base`. Above: whoever sends or receives rows.
 #![tactic(auto)]
 
 mod chunk;
+mod count_laws;
+mod counting;
 mod draft;
 mod fault;
 mod joiner;
@@ -16,6 +22,8 @@ mod laws;
 mod splitter;
 
 pub use chunk::{ChunkKind, push_end_of_stream};
+pub use count_laws::{count_tells, counts_rows};
+pub use counting::{count_more, rows_ended};
 pub use fault::FeedNo;
 pub use joiner::{Fed, Joiner};
 pub use laws::{cut_assembles, front_assembles, one_assembly};

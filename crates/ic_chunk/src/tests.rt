@@ -1,6 +1,8 @@
 // Worked bytes, and what no clause says: that memory serves.
 ghost use Rattle.std.specs.Prelude.{◌≤◌};
 
+mod counting;
+
 use super::*;
 use ic_base::Bytes;
 use ic_row::Value;

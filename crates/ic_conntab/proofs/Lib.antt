@@ -4,3 +4,13 @@ pub mod Finding
 pub mod Placing
 pub mod Ending
 pub mod Apart
+pub mod Distinct
+pub mod Position
+pub mod EndsApart
+pub mod Firsts
+pub mod Member
+pub mod Counted
+pub mod Found
+pub mod Named
+pub mod Rising
+pub mod Within

@@ -2,7 +2,7 @@
 ghost use Rattle.std.specs.Prelude.{◌≡◌, false, is_some, OnOk, OnErr, option_copied};
 ghost use Rattle.std.specs.FinMap as map;
 
-use crate::places::Places;
+use crate::keys::Keys;
 use std::alloc::{AllocError, Global};
 use std::collections::HashMap;
 use std::marker::Model;
@@ -13,7 +13,7 @@ const QUERIES: usize = 4;
 /// The connections of each live query, seen as the map from its id to their list.
 #[derive(Drop)]
 pub struct Live {
-    queries: HashMap<u32, Places>,
+    queries: HashMap<u32, Keys>,
 }
 
 impl Model for Live {
@@ -43,18 +43,18 @@ impl Live {
     }
 
     /// The connections of a live query.
-    pub fn get(&self, query: u32) -> Option<&Places>
+    pub fn get(&self, query: u32) -> Option<&Keys>
         ensures { option_copied result ≡ map.get self.now query }
     {
         self.queries.get(&query)
     }
 
     /// Puts a query's connections.
-    pub fn insert(&mut self, query: u32, places: Places) -> Result<(), AllocError>
-        ensures ok { OnOk result (self.new ≡ map.insert self.old query places) }
+    pub fn insert(&mut self, query: u32, keys: Keys) -> Result<(), AllocError>
+        ensures ok { OnOk result (self.new ≡ map.insert self.old query keys) }
         ensures err { OnErr result (self.new ≡ self.old) }
     {
-        self.queries.insert(query, places)?;
+        self.queries.insert(query, keys)?;
         Ok(())
     }
 

@@ -1,43 +1,131 @@
-// The connections of one query, found by their keys.
-ghost use Rattle.std.specs.Prelude.{◌≡◌, List, position, IfOk};
+// Where the ends stand.
+ghost use Rattle.std.specs.Prelude.{◌≡◌, ◌==◌, ℕ, ◌<◌, length, position, slice_get, Some, All, IfSome, IfOk};
 ghost use Rattle.std.specs.List.{IsDistinct};
 ghost use Rattle.ic_base.specs.Keys.{key_eq};
+ghost use Rattle.ic_base.specs.declared.keys.ConnKey.{ConnKey};
+ghost use Rattle.ic_conntab.specs.Ends.{sending_ends, receiving_ends, keys_of, sender_at, receiver_at, motions_of, receivers_of};
+ghost use Rattle.ic_conntab.specs.Slots.{slots_of, IsWithin};
 
-use ic_base::ConnKey;
+use crate::finding::{
+    first_places, keys_in, motions_in, receiving_keys, rows_in, sending_keys, sides_in, slots_in,
+};
+use crate::row::Row;
+use crate::slots::{Sides, Slot};
+use ic_base::{ConnEnd, ConnKey};
 use indexmap::IndexSet;
 use std::alloc::{AllocError, Global};
 use std::marker::Model;
 
-/// Connections in the order in which they were given, seen as their list.
+/// Where the ends of a query's connections stand, seen as the list of the ends.
+///
+/// It is made once and only looked at: [`sides`](Places::sides) for the place of a key, as a datagram's key is found;
+/// [`motion`](Places::motion) and [`receivers`](Places::receivers) for a call that takes rows of a motion;
+/// [`order`](Places::order) for what all ends do in their order.
 #[derive(Drop)]
 pub struct Places {
+    ends: Vec<ConnEnd>,
     keys: IndexSet<ConnKey>,
+    /// For each key, where its ends stand.
+    sides: Vec<Sides>,
+    motions: IndexSet<u32>,
+    /// For each motion, its receiving ends.
+    rows: Vec<Row>,
+    order: Vec<Slot>,
 }
 
 impl Model for Places {
     ghost use Rattle.std.specs.Prelude.{List};
-    ghost use Rattle.ic_base.specs.declared.keys.ConnKey.{ConnKey};
+    ghost use Rattle.ic_base.specs.declared.keys.ConnEnd.{ConnEnd};
+    ghost use Rattle.ic_conntab.specs.Kept.{AreOf};
 
-    ghost Value = { List ConnKey };
+    ghost Value = { List ConnEnd };
 
-    ghost view = { λ p. p.keys.keys };
+    ghost view = { λ p. p.ends.items };
+
+    ghost invariant = { λ p. AreOf p.ends.items p.keys.keys p.sides.items p.motions.keys p.rows.items p.order.items };
 }
 
 impl Places {
-    /// Copies each key once.
-    pub fn new(alloc: Global, keys: &[ConnKey]) -> Result<Places, AllocError>
-        requires distinct { IsDistinct key_eq keys.now }
-        ensures { IfOk result (λ p. p ≡ keys.now) }
+    /// Hashes each end's key a few times, and walks the receiving ends once for each motion. No order or number of ends
+    /// is asked for: where several ends of a side have one key, the first of them is found.
+    pub fn new(alloc: Global, ends: &[ConnEnd]) -> Result<Places, AllocError>
+        ensures { IfOk result (λ p. p ≡ ends.now) }
     {
-        let mut all = IndexSet::with_capacity(alloc, keys.len())?;
-        all.extend(keys)?;
-        Ok(Places { keys: all })
+        let sending = sending_keys(alloc, ends)?;
+        let receiving = receiving_keys(alloc, ends)?;
+        let senders = first_places(alloc, &sending)?;
+        let receivers = first_places(alloc, &receiving)?;
+        let keys = keys_in(alloc, ends)?;
+        let sides = sides_in(alloc, keys.as_slice(), &senders, &receivers)?;
+        let motions = motions_in(alloc, &receiving)?;
+        let rows = rows_in(alloc, &receiving, motions.as_slice())?;
+        let order = slots_in(alloc, ends)?;
+        Ok(Places {
+            ends: Vec::from_slice(alloc, ends)?,
+            keys,
+            sides,
+            motions,
+            rows,
+            order,
+        })
     }
 
-    /// The place of a key, from 0. Walks no list: the key is hashed.
-    pub fn place(&self, key: &ConnKey) -> Option<usize>
-        ensures { result ≡ position (key_eq key.now) self.now }
+    /// The ends, in their order.
+    pub fn ends(&self) -> &[ConnEnd]
+        ensures { result.now ≡ self.now }
     {
-        self.keys.get_index_of(key)
+        self.ends.as_slice()
+    }
+
+    /// The keys of the ends, each once, in the order of their first ends.
+    pub fn keys(&self) -> &[ConnKey]
+        ensures value { result.now ≡ keys_of self.now }
+        ensures distinct { IsDistinct key_eq result.now }
+    {
+        self.keys.as_slice()
+    }
+
+    /// Where the ends of the key at this place of `keys` stand. One look.
+    pub fn sides(&self, place: usize) -> Sides
+        requires { place < length (keys_of self.now) }
+        ensures sender { (key : ConnKey) → slice_get (keys_of self.now) place ≡ Some key → result.sender ≡ sender_at self.now key }
+        ensures receiver { (key : ConnKey) → slice_get (keys_of self.now) place ≡ Some key → result.receiver ≡ receiver_at self.now key }
+        ensures sender_within { IfSome result.sender (λ i. i < length (sending_ends self.now)) }
+        ensures receiver_within { IfSome result.receiver (λ i. i < length (receiving_ends self.now)) }
+    {
+        self.sides[place]
+    }
+
+    /// The place of a motion among those of the receiving ends, and `None` exactly where no receiving end has it. One
+    /// look-up by hash.
+    pub fn motion(&self, number: u32) -> Option<usize>
+        ensures value { result ≡ position (λ m. m == number) (motions_of self.now) }
+        ensures within { IfSome result (λ i. i < length (motions_of self.now)) }
+    {
+        self.motions.get_index_of(&number)
+    }
+
+    /// How many motions the receiving ends have.
+    pub fn motions(&self) -> usize
+        ensures { result ≡ length (motions_of self.now) }
+    {
+        self.motions.len()
+    }
+
+    /// The places of a motion's receiving ends among all receiving ones, rising. One look.
+    pub fn receivers(&self, motion: usize) -> &[usize]
+        requires { motion < length (motions_of self.now) }
+        ensures value { (number : ℕ) → slice_get (motions_of self.now) motion ≡ Some number → result.now ≡ receivers_of self.now number }
+        ensures within { All (λ place. place < length (receiving_ends self.now)) result.now }
+    {
+        self.rows[motion].as_slice()
+    }
+
+    /// Each end's place among those of its side, in the order of the ends.
+    pub fn order(&self) -> &[Slot]
+        ensures value { result.now ≡ slots_of self.now }
+        ensures within { All (IsWithin self.now) result.now }
+    {
+        self.order.as_slice()
     }
 }

@@ -6,8 +6,8 @@ ghost use Rattle.ic_conntab.specs.Table.{is_past, raised};
 ghost use Rattle.ic_base.specs.declared.keys.BeginNo.TheVariants.{Old, Twice};
 
 use crate::answer::{Find, NotLive};
+use crate::keys::Keys;
 use crate::live::Live;
-use crate::places::Places;
 use ic_base::{BeginNo, ConnKey};
 use std::alloc::{AllocError, Global};
 use std::marker::Model;
@@ -66,10 +66,10 @@ impl ConnTable {
         if self.live.get(query).is_some() {
             return Err(BeginNo::Twice);
         }
-        let Ok(places) = Places::new(alloc, keys) else {
+        let Ok(kept) = Keys::new(alloc, keys) else {
             return Err(BeginNo::Memory);
         };
-        match self.live.insert(query, places) {
+        match self.live.insert(query, kept) {
             Ok(_) => Ok(()),
             Err(_) => Err(BeginNo::Memory),
         }
@@ -83,7 +83,7 @@ impl ConnTable {
             return Find::Foreign;
         }
         match self.live.get(key.query) {
-            Some(places) => match places.place(key) {
+            Some(keys) => match keys.place(key) {
                 Some(place) => Find::Here(place),
                 None => Find::Foreign,
             },

@@ -12,11 +12,11 @@ use Rattle.ic_conntab.specs.Table as table
 use Rattle.ic_law.specs.declared.history.Entry.{Entry}
 use Rattle.ic_law.specs.Points.{IsLive}
 use Rattle.ic_law.specs.Emission.{clock_of}
-use Rattle.ic_outgoing.specs.Outgoing.{OutgoingState, begun_at}
+use Rattle.ic_timed_sender.specs.Timed.{TimedState, begun_at}
 use Rattle.ic_receiver.specs.Receiving.{Receiving}
 use Rattle.ic_receiver.specs.Receiving as receiving
-use Rattle.ic_places.specs.Ends.{sending_ends, receiving_ends, motions_of}
-use Rattle.ic_ends.proofs.Ahead.{goes_first}
+use Rattle.ic_conntab.specs.Ends.{sending_ends, receiving_ends, motions_of}
+use Rattle.ic_hub_laws.proofs.Ahead.{goes_first}
 use Rattle.ic_hub.specs.Hubbing.{Living, IsLiving, Ascend, IsHub, fresh, place_in}
 use Rattle.ic_hub.specs.Standing.{IsAmong, Stands}
 use Rattle.ic_hub.specs.Beginning.{sender_begun, receiver_begun}
@@ -112,7 +112,7 @@ receivers_are settings (e ∷ ends) = by e.sending (receivers_are settings ends)
     by true more = more
     by false more = ap (λ rs. receiving.begun e settings ∷ rs) more
 
-sent_ends : (settings : Settings) (tick : ℕ) (es : List ConnEnd) → map (λ (o : OutgoingState). o.sending.end) (map (λ (e : ConnEnd). begun_at e settings tick) es) ≡ es
+sent_ends : (settings : Settings) (tick : ℕ) (es : List ConnEnd) → map (λ (o : TimedState). o.sending.end) (map (λ (e : ConnEnd). begun_at e settings tick) es) ≡ es
 sent_ends settings tick [] = refl
 sent_ends settings tick (e ∷ es) = ap (λ xs. e ∷ xs) (sent_ends settings tick es)
 
@@ -128,7 +128,7 @@ pub begun_living : (settings : Settings) (tick number : ℕ) (ends : List ConnEn
     → l.served ≡ replicate (length (motions_of l.ends)) None → IsLiving l
 begun_living settings tick number ends l same senders receivers served =
     record {
-      senders = ap (map (λ (o : OutgoingState). o.sending.end)) (senders ∙ senders_are settings tick ends) ∙ sent_ends settings tick (sending_ends ends) ∙ ap sending_ends (sym same);
+      senders = ap (map (λ (o : TimedState). o.sending.end)) (senders ∙ senders_are settings tick ends) ∙ sent_ends settings tick (sending_ends ends) ∙ ap sending_ends (sym same);
       receivers = ap (map (λ (r : Receiving). r.end)) (receivers ∙ receivers_are settings ends) ∙ received_ends settings (receiving_ends ends) ∙ ap receiving_ends (sym same);
       served = ap length served ∙ replicated (length (motions_of l.ends)) None;
     }

@@ -20,22 +20,22 @@ use Rattle.ic_law.specs.Asking.{AreEnds}
 use Rattle.ic_law.specs.Arriving.{IsLiveQuery, IsOld, LastServed, IsGreatestLeft, IsOldOne, IsTwice, IsNew}
 use Rattle.ic_law.specs.Emission.{clock_of}
 use Rattle.ic_law.proofs.Lists.{Contains-none}
-use Rattle.ic_places.specs.Ends.{sending_ends, receiving_ends, keys_of, motions_of}
-use Rattle.ic_places.proofs.Named.{ends_have_their_sides}
-use Rattle.ic_outgoing.specs.Outgoing.{OutgoingState, begun_at}
-use Rattle.ic_outgoing.specs.Standing.{Stands as SenderStands}
+use Rattle.ic_conntab.specs.Ends.{sending_ends, receiving_ends, keys_of, motions_of}
+use Rattle.ic_conntab.proofs.Named.{ends_have_their_sides}
+use Rattle.ic_timed_sender.specs.Timed.{TimedState, begun_at}
+use Rattle.ic_timed_sender.specs.Standing.{Stands as SenderStands}
 use Rattle.ic_receiver.specs.Receiving.{Receiving}
 use Rattle.ic_receiver.specs.Receiving as receiving
 use Rattle.ic_receiver.specs.Standing.{Stands as ReceiverStands}
 use Rattle.ic_sender.proofs.Passing.{clock_stays}
-use Rattle.ic_ends.specs.Entries.{IsOurs, EndsKeep, IsNought, Begins}
-use Rattle.ic_ends.specs.Laws.{AboutNone, IsAhead}
-use Rattle.ic_ends.proofs.Lives.{lives_from, old_upto}
-use Rattle.ic_ends.proofs.Ahead.{stays_ahead, ahead_goes_on}
-use Rattle.ic_ends.proofs.Whole.{law_goes_on, emission_goes_on}
-use Rattle.ic_ends.proofs.Nought.{quiet}
-use Rattle.ic_ends.proofs.NoughtPoints.{nought_point}
-use Rattle.ic_ends.proofs.Served.{served_before, served_nobody}
+use Rattle.ic_hub_laws.specs.Entries.{IsOurs, EndsKeep, IsNought, Begins}
+use Rattle.ic_hub_laws.specs.Laws.{AboutNone, IsAhead}
+use Rattle.ic_hub_laws.proofs.Lives.{lives_from, old_upto}
+use Rattle.ic_hub_laws.proofs.Ahead.{stays_ahead, ahead_goes_on}
+use Rattle.ic_hub_laws.proofs.Whole.{law_goes_on, emission_goes_on}
+use Rattle.ic_hub_laws.proofs.Nought.{quiet}
+use Rattle.ic_hub_laws.proofs.NoughtPoints.{nought_point}
+use Rattle.ic_hub_laws.proofs.Served.{served_before, served_nobody}
 use Rattle.ic_hub.specs.Hubbing.{Hubbing, Living, IsOfHub, keys_in, Ascend, IsHub, place_in}
 use Rattle.ic_hub.specs.Entries.{begin_entry}
 use Rattle.ic_hub.specs.Standing.{LivingStands, IsTop, IsAmong, Stands}
@@ -115,7 +115,7 @@ all_from : {A : Type 0} (P : A → Type 0) (xs : List A) → ((i : ℕ) (x : A) 
 all_from P [] each = tt
 all_from P (x ∷ xs) each = (each zero x refl, all_from P xs (λ i y h. each (suc i) y h))
 
-all_sent : (P : OutgoingState → Type 0) (settings : Settings) (tick : ℕ) (es : List ConnEnd) → ((e : ConnEnd) → P (begun_at e settings tick)) → AllByRecursion P (map (λ (e : ConnEnd). begun_at e settings tick) es)
+all_sent : (P : TimedState → Type 0) (settings : Settings) (tick : ℕ) (es : List ConnEnd) → ((e : ConnEnd) → P (begun_at e settings tick)) → AllByRecursion P (map (λ (e : ConnEnd). begun_at e settings tick) es)
 all_sent P settings tick [] each = tt
 all_sent P settings tick (e ∷ es) each = (each e, all_sent P settings tick es each)
 
@@ -130,8 +130,8 @@ begun_of_hub place tick query ends l are begun =
       living = begun_living place.settings tick query ends l begun.ends_are begun.senders begun.receivers (begun.served ∙ ap (λ es. replicate (length (motions_of es)) None) (sym begun.ends_are));
       ends = subst (λ n. AreEnds place n l.ends) (sym begun.number_is) (subst (AreEnds place query) (sym begun.ends_are) are);
       ours = subst (AllByRecursion (IsOurs place)) (sym begun.ends_are) ours;
-      settings = subst (AllByRecursion (λ (o : OutgoingState). o.sending.settings ≡ place.settings)) (sym senders) (all_sent (λ (o : OutgoingState). o.sending.settings ≡ place.settings) place.settings tick (sending_ends ends) (λ e. refl));
-      tick_is = subst (AllByRecursion (λ (o : OutgoingState). o.now ≡ tick)) (sym senders) (all_sent (λ (o : OutgoingState). o.now ≡ tick) place.settings tick (sending_ends ends) (λ e. refl));
+      settings = subst (AllByRecursion (λ (o : TimedState). o.sending.settings ≡ place.settings)) (sym senders) (all_sent (λ (o : TimedState). o.sending.settings ≡ place.settings) place.settings tick (sending_ends ends) (λ e. refl));
+      tick_is = subst (AllByRecursion (λ (o : TimedState). o.now ≡ tick)) (sym senders) (all_sent (λ (o : TimedState). o.now ≡ tick) place.settings tick (sending_ends ends) (λ e. refl));
     }
 
 -- the hub with it, and with the table in which it began

@@ -20,22 +20,22 @@ use Rattle.ic_law.specs.Packets.{key_of, goes_forth}
 use Rattle.ic_law.specs.History.{emits, datagrams_of}
 use Rattle.ic_law.specs.Points.{IsDirected}
 use Rattle.ic_law.proofs.Lists.{Contains-none, Contains-one}
-use Rattle.ic_places.specs.Ends.{sender_at, receiver_at}
-use Rattle.ic_places.specs.declared.slots.Sides.{Sides}
-use Rattle.ic_places.proofs.Named.{keys_are_of_ends}
+use Rattle.ic_conntab.specs.Ends.{sender_at, receiver_at}
+use Rattle.ic_conntab.specs.declared.slots.Sides.{Sides}
+use Rattle.ic_conntab.proofs.Named.{keys_are_of_ends}
 use Rattle.ic_sender.specs.declared.send_no.SendNo.{SendNo}
 use Rattle.ic_sender.specs.declared.send_no.SendNo.TheVariants.{Stray}
 use Rattle.ic_sender.specs.Entries.{IsHearing as IsAnswered, came_of as told}
-use Rattle.ic_outgoing.specs.Outgoing.{OutgoingState, SameEnd}
-use Rattle.ic_outgoing.specs.Emitted.{IsOutgoingOf}
-use Rattle.ic_outgoing.specs.Standing.{StandsNext}
+use Rattle.ic_timed_sender.specs.Timed.{TimedState, SameEnd}
+use Rattle.ic_timed_sender.specs.Emitted.{IsOutgoingOf}
+use Rattle.ic_timed_sender.specs.Standing.{StandsNext}
 use Rattle.ic_receiver.specs.Receiving.{Receiving, Hears, Stopped, Running, HearsRows, Again, Far, Kept as KeptNow, TellsStored, Next, Gap, HearsQuery, QueryStopped, QueryTold, IsAnswer}
 use Rattle.ic_receiver.specs.Standing.{Stands as ReceiverStands}
-use Rattle.ic_ends.specs.Entries.{IsOurs, OfArrive}
-use Rattle.ic_ends.specs.Formed.{IsFormedOf}
-use Rattle.ic_ends.proofs.Forms.{answers_formed}
-use Rattle.ic_ends.proofs.Served.{served_before}
-use Rattle.ic_ends.proofs.Telling.{rows_is}
+use Rattle.ic_hub_laws.specs.Entries.{IsOurs, OfArrive}
+use Rattle.ic_hub_laws.specs.Formed.{IsFormedOf}
+use Rattle.ic_hub_laws.proofs.Forms.{answers_formed}
+use Rattle.ic_hub_laws.proofs.Served.{served_before}
+use Rattle.ic_hub_laws.proofs.Telling.{rows_is}
 use Rattle.ic_hub.specs.declared.finding.Found.TheVariants as says
 use Rattle.ic_hub.specs.Hubbing.{Hubbing, Living, place_in}
 use Rattle.ic_hub.specs.Entries.{arrive_entry, came_of}
@@ -124,7 +124,7 @@ same_receivers : (l m : Living) (place : ℕ) (old new : Receiving) → slice_ge
 same_receivers l m place old new here is same =
     is ∙ ap (λ x. record l { receivers = set l.receivers place x }) same ∙ ap (λ xs. record l { receivers = xs }) (set_same l.receivers place old here)
 
-same_senders : (l m : Living) (place : ℕ) (old new : OutgoingState) → slice_get l.senders place ≡ Some old → m ≡ record l { senders = set l.senders place new } → new ≡ old → m ≡ l
+same_senders : (l m : Living) (place : ℕ) (old new : TimedState) → slice_get l.senders place ≡ Some old → m ≡ record l { senders = set l.senders place new } → new ≡ old → m ≡ l
 same_senders l m place old new here is same =
     is ∙ ap (λ x. record l { senders = set l.senders place x }) same ∙ ap (λ xs. record l { senders = xs }) (set_same l.senders place old here)
 
@@ -169,7 +169,7 @@ forth_stands s h d head body query place l m r shaped stands reads leads forth f
 -- ---- a sender
 
 -- it stands on with what an answer makes of a sender
-answered_stands : (s : Hubbing) (h : List Entry) (d : Datagram) (head : Header) (body : List ℕ) (query place : ℕ) (l : Living) (old new : OutgoingState) (answer : Result (List Datagram) SendNo) (r : Became) → Shaped s → Stands s h
+answered_stands : (s : Hubbing) (h : List Entry) (d : Datagram) (head : Header) (body : List ℕ) (query place : ℕ) (l : Living) (old new : TimedState) (answer : Result (List Datagram) SendNo) (r : Became) → Shaped s → Stands s h
     → read_header d.bytes ≡ Ok (head, body) → IsDirected false d old.sending.end.key → goes_forth head.flags ≡ false → key_of head ≡ old.sending.end.key → slice_get s.live query ≡ Some l → slice_get l.senders place ≡ Some old
     → SameEnd old new → new.now ≡ old.now → StandsNext old new (IsAnswered old.sending.end.key head.flags head.seq head.extra body answer) → came_of r ≡ told answer → (came_of r ≡ Memory) ⊎ (kind_replied (came_of r) ≡ Coming)
     → ((x : Datagram) → Contains (datagrams_of (came_of r)) x → IsOutgoingOf old.sending.end old.sending.settings.packet x) → Stands (with_query s query (with_sender l place new)) (h ++ arrive_entry d r ∷ [])
@@ -208,7 +208,7 @@ back_stands s h d head body query place l m r shaped stands reads leads back fou
     it = same_at l.senders place hears.old found.sender hears.here (ap (λ (x : Living). slice_get x.senders place) same ∙ found.here)
 
     key : key_of head ≡ hears.old.sending.end.key
-    key = sym found.is ∙ ap (λ (x : OutgoingState). x.sending.end.key) (sym it)
+    key = sym found.is ∙ ap (λ (x : TimedState). x.sending.end.key) (sym it)
 
     directed : IsDirected false d hears.old.sending.end.key
     directed = subst (λ (k : ConnKey). IsDirected false d k) key (subst (λ b. IsDirected b d (key_of head)) back leads.directed)
@@ -223,7 +223,7 @@ back_stands s h d head body query place l m r shaped stands reads leads back fou
         (subst (λ x. Stands s (h ++ arrive_entry d x ∷ [])) (sym is) (without s h d e shaped stands))
     by (Strays is unchanged end goes) =
         with_new (Ok (Dropped cause.Stray, [])) is
-        (answered_stands s h d head body query place l hears.old hears.new (Err Stray) (Ok (Dropped cause.Stray, [])) shaped stands reads directed back key here hears.here end (ap (λ (o : OutgoingState). o.now) unchanged) goes refl (inr refl)
+        (answered_stands s h d head body query place l hears.old hears.new (Err Stray) (Ok (Dropped cause.Stray, [])) shaped stands reads directed back key here hears.here end (ap (λ (o : TimedState). o.now) unchanged) goes refl (inr refl)
         (λ x c. absurd (Contains-none x c)))
     by (Back ds is end now formed goes) =
         with_new (Ok (Handled, ds)) is

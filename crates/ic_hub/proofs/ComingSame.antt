@@ -7,8 +7,8 @@ use Rattle.ic_recvring.specs.Ring.{Ring, Packet as Kept}
 use Rattle.ic_law.specs.declared.history.Arrived.{Arrived}
 use Rattle.ic_law.specs.declared.history.Arrived.TheVariants.{Handled, Dropped}
 use Rattle.ic_law.specs.declared.history.Entry.{Entry}
-use Rattle.ic_places.specs.declared.slots.Sides.{Sides}
-use Rattle.ic_outgoing.specs.Outgoing.{OutgoingState}
+use Rattle.ic_conntab.specs.declared.slots.Sides.{Sides}
+use Rattle.ic_timed_sender.specs.Timed.{TimedState}
 use Rattle.ic_receiver.specs.Receiving.{Receiving, Hears, Stopped, Running, HearsRows, Again, Far, Kept as KeptNow}
 use Rattle.ic_hub.specs.Hubbing.{Hubbing, Living}
 use Rattle.ic_hub.specs.Standing.{Stands}
@@ -42,7 +42,7 @@ forth_same : (head : Header) (body : List ℕ) (old new : Receiving) (r : Became
 forth_same head body old new r (ForthWithout e is same) drops = same
 forth_same head body old new r (Forth a is asks) drops = asks_same head body old new a asks (subst NotHandled is drops)
 
-back_same : (head : Header) (body : List ℕ) (old new : OutgoingState) (r : Became) → HearsBack head body old new r → NotHandled r → new ≡ old
+back_same : (head : Header) (body : List ℕ) (old new : TimedState) (r : Became) → HearsBack head body old new r → NotHandled r → new ≡ old
 back_same head body old new r (BackWithout e is same) drops = same
 back_same head body old new r (Strays is same end stands) drops = same
 back_same head body old new r (Back ds is end now formed stands) drops = absurd (subst NotHandled is drops)

@@ -20,11 +20,11 @@ use Rattle.ic_law.specs.Points.{IsFormed, IsHere}
 use Rattle.ic_law.specs.Arriving.{IsForeign, NoSegment, NotHere, Misdirected, OtherSession, NoSuchKey, IsLiveQuery, IsOld}
 use Rattle.ic_law.proofs.Lists.{Contains-none, Contains-one}
 use Rattle.ic_conntab.specs.Table.{is_past}
-use Rattle.ic_places.specs.Ends.{keys_of}
-use Rattle.ic_places.proofs.Named.{keys_are_of_ends}
-use Rattle.ic_ends.specs.Entries.{IsNought, Unread, Strange, EndedQuery, UnbegunQuery, LateAnswer}
-use Rattle.ic_ends.proofs.Forms.{turned_formed}
-use Rattle.ic_ends.proofs.Lives.{old_upto}
+use Rattle.ic_conntab.specs.Ends.{keys_of}
+use Rattle.ic_conntab.proofs.Named.{keys_are_of_ends}
+use Rattle.ic_hub_laws.specs.Entries.{IsNought, Unread, Strange, EndedQuery, UnbegunQuery, LateAnswer}
+use Rattle.ic_hub_laws.proofs.Forms.{turned_formed}
+use Rattle.ic_hub_laws.proofs.Lives.{old_upto}
 use Rattle.ic_hub.specs.Hubbing.{Hubbing, Living, place_in}
 use Rattle.ic_hub.specs.Entries.{arrive_entry, came_of}
 use Rattle.ic_hub.specs.Finding.{IsNotLive}

@@ -12,13 +12,13 @@ use Rattle.ic_header.proofs.Joining.{length-written}
 use Rattle.ic_law.specs.declared.history.Arrived.TheVariants.{Handled, Dropped}
 use Rattle.ic_law.specs.declared.history.DropCause.TheVariants as cause
 use Rattle.ic_law.specs.Packets.{key_of, is_rows, is_last}
-use Rattle.ic_places.specs.declared.slots.Sides.{Sides}
+use Rattle.ic_conntab.specs.declared.slots.Sides.{Sides}
 use Rattle.ic_conntab.specs.Table.{Table}
 use Rattle.ic_sender.specs.declared.send_no.SendNo.{SendNo}
 use Rattle.ic_sender.specs.Entries.{IsHearing as IsAnswered}
-use Rattle.ic_outgoing.specs.Outgoing.{OutgoingState, SameEnd}
-use Rattle.ic_outgoing.specs.Emitted.{AreOutgoing}
-use Rattle.ic_outgoing.specs.Standing.{StandsNext}
+use Rattle.ic_timed_sender.specs.Timed.{TimedState, SameEnd}
+use Rattle.ic_timed_sender.specs.Emitted.{AreOutgoing}
+use Rattle.ic_timed_sender.specs.Standing.{StandsNext}
 use Rattle.ic_receiver.specs.Receiving.{Receiving, Hears, Stopped, Running, HearsQuery}
 use Rattle.ic_receiver.specs.Entries.{IsHearing, IsQuerying}
 use Rattle.ic_receiver.specs.Standing.{StandsOn}
@@ -79,22 +79,22 @@ forth_without head body old new r fails same = let w = err_of r fails in ForthWi
 
 -- ---- a sender
 
-pub back_end : (head : Header) (body : List ℕ) (old new : OutgoingState) (r : Became) → HearsBack head body old new r → SameEnd old new
+pub back_end : (head : Header) (body : List ℕ) (old new : TimedState) (r : Became) → HearsBack head body old new r → SameEnd old new
 back_end head body old new r (BackWithout e is same) = subst (λ o. SameEnd old o) (sym same) (record { end = refl; settings = refl })
 back_end head body old new r (Strays is same end stands) = end
 back_end head body old new r (Back ds is end now formed stands) = end
 
-pub back_now : (head : Header) (body : List ℕ) (old new : OutgoingState) (r : Became) → HearsBack head body old new r → new.now ≡ old.now
-back_now head body old new r (BackWithout e is same) = ap (λ (o : OutgoingState). o.now) same
-back_now head body old new r (Strays is same end stands) = ap (λ (o : OutgoingState). o.now) same
+pub back_now : (head : Header) (body : List ℕ) (old new : TimedState) (r : Became) → HearsBack head body old new r → new.now ≡ old.now
+back_now head body old new r (BackWithout e is same) = ap (λ (o : TimedState). o.now) same
+back_now head body old new r (Strays is same end stands) = ap (λ (o : TimedState). o.now) same
 back_now head body old new r (Back ds is end now formed stands) = now
 
-pub back_heard : (head : Header) (body : List ℕ) (old new : OutgoingState) (r : Result (List Datagram) SendNo) (ds : List Datagram) → r ≡ Ok ds → SameEnd old new → new.now ≡ old.now → IfOk r (AreOutgoing old.sending)
+pub back_heard : (head : Header) (body : List ℕ) (old new : TimedState) (r : Result (List Datagram) SendNo) (ds : List Datagram) → r ≡ Ok ds → SameEnd old new → new.now ≡ old.now → IfOk r (AreOutgoing old.sending)
     → StandsNext old new (IsAnswered old.sending.end.key head.flags head.seq head.extra body r) → HearsBack head body old new (Ok (Handled, ds))
 back_heard head body old new r ds is end now formed stands =
     Back ds refl end now (subst (λ x. IfOk x (AreOutgoing old.sending)) is formed) (subst (λ x. StandsNext old new (IsAnswered old.sending.end.key head.flags head.seq head.extra body x)) is stands)
 
-pub back_without : (head : Header) (body : List ℕ) (old new : OutgoingState) (e : AllocError) (r : Result (List Datagram) SendNo) (why : SendNo) → r ≡ Err why → OnErr r (new ≡ old) → HearsBack head body old new (Err e)
+pub back_without : (head : Header) (body : List ℕ) (old new : TimedState) (e : AllocError) (r : Result (List Datagram) SendNo) (why : SendNo) → r ≡ Err why → OnErr r (new ≡ old) → HearsBack head body old new (Err e)
 back_without head body old new e r why is same = BackWithout e refl (subst (λ x. OnErr x (new ≡ old)) is same)
 
 -- ---- the hub

@@ -8,10 +8,10 @@ use Rattle.ic_base.specs.declared.keys.ConnKey.{ConnKey}
 use Rattle.ic_base.specs.declared.keys.ConnEnd.{ConnEnd}
 use Rattle.ic_conntab.specs.declared.answer.Find.TheVariants.{Foreign, Here, Ended, NotBegun}
 use Rattle.ic_conntab.specs.Table.{Table, is_past, found, placed}
-use Rattle.ic_places.specs.Ends.{keys_of, sender_at, receiver_at}
-use Rattle.ic_places.specs.declared.slots.Sides.{Sides}
-use Rattle.ic_places.proofs.Named.{ends_have_their_sides, sides_are_found, keys_are_of_ends}
-use Rattle.ic_outgoing.specs.Outgoing.{OutgoingState}
+use Rattle.ic_conntab.specs.Ends.{keys_of, sender_at, receiver_at}
+use Rattle.ic_conntab.specs.declared.slots.Sides.{Sides}
+use Rattle.ic_conntab.proofs.Named.{ends_have_their_sides, sides_are_found, keys_are_of_ends}
+use Rattle.ic_timed_sender.specs.Timed.{TimedState}
 use Rattle.ic_receiver.specs.Receiving.{Receiving}
 use Rattle.ic_hub.specs.declared.finding.Found.{Found}
 use Rattle.ic_hub.specs.declared.finding.Found.TheVariants as says
@@ -151,7 +151,7 @@ finds_sender s key query place sides shaped (There session i l at number has its
     let found : sender_at l.ends key ≡ Some place = sym sender ∙ ap (λ (x : Sides). x.sender) (sym same.1) ∙ h in
     let end = (sides_are_found l.ends).0.some key place found in
     let living = shaped.living i l at in
-    let there = at_map (λ (o : OutgoingState). o.sending.end) l.senders place end.0 (ap (λ xs. slice_get xs place) living.senders ∙ end.1) in
+    let there = at_map (λ (o : TimedState). o.sending.end) l.senders place end.0 (ap (λ xs. slice_get xs place) living.senders ∙ end.1) in
     record {
       living = l;
       sender = there.0;

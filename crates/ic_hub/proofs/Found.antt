@@ -12,7 +12,7 @@ use Rattle.ic_base.proofs.SameKeys.{key_eq-same, key_eq-tells}
 use Rattle.ic_conntab.specs.declared.answer.Find.{Find}
 use Rattle.ic_conntab.specs.declared.answer.Find.TheVariants.{Foreign, Ended, NotBegun}
 use Rattle.ic_conntab.specs.Table.{Table, is_past, found, found_in, placed}
-use Rattle.ic_places.specs.Ends.{keys_of}
+use Rattle.ic_conntab.specs.Ends.{keys_of}
 use Rattle.ic_hub.specs.Hubbing.{Hubbing, Living, keys_in, IsHub}
 use Rattle.ic_hub.specs.Finding.{IsNotLive}
 use Rattle.ic_hub.proofs.Places.{contains_at}

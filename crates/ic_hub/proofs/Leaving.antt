@@ -19,24 +19,24 @@ use Rattle.ic_law.specs.History.{left_of}
 use Rattle.ic_law.specs.Points.{IsClear, IsEnded, IsLive}
 use Rattle.ic_law.specs.Arriving.{AreClear, IsFirstUnclear, IsLiveQuery, AnswersClear, AnswersLeave, LeavesNow}
 use Rattle.ic_law.proofs.Lists.{Contains-none, head_or_tail}
-use Rattle.ic_places.specs.declared.slots.Slot.{Slot}
-use Rattle.ic_places.specs.declared.slots.Slot.TheVariants.{Sender, Receiver}
-use Rattle.ic_places.specs.Ends.{sending_ends, receiving_ends, keys_of}
-use Rattle.ic_places.specs.Slots.{slots_of, end_at}
-use Rattle.ic_places.proofs.Named.{ends_have_their_sides}
-use Rattle.ic_places.proofs.Counted.{slots_are_their_ends}
+use Rattle.ic_conntab.specs.declared.slots.Slot.{Slot}
+use Rattle.ic_conntab.specs.declared.slots.Slot.TheVariants.{Sender, Receiver}
+use Rattle.ic_conntab.specs.Ends.{sending_ends, receiving_ends, keys_of}
+use Rattle.ic_conntab.specs.Slots.{slots_of, end_at}
+use Rattle.ic_conntab.proofs.Named.{ends_have_their_sides}
+use Rattle.ic_conntab.proofs.Counted.{slots_are_their_ends}
 use Rattle.ic_receiver.specs.Receiving.{Receiving}
 use Rattle.ic_receiver.specs.Standing.{Stands as ReceiverStands, TakesNoMore}
 use Rattle.ic_sender.specs.Standing.{IsOverIn}
 use Rattle.ic_sender.proofs.Passing.{clock_stays}
-use Rattle.ic_outgoing.specs.Outgoing.{OutgoingState}
-use Rattle.ic_outgoing.specs.Standing.{Stands as SenderStands}
-use Rattle.ic_ends.specs.Entries.{IsNought, Clears, Leaves}
-use Rattle.ic_ends.specs.Laws.{AboutNone}
-use Rattle.ic_ends.proofs.Lives.{lives_until, left_tops}
-use Rattle.ic_ends.proofs.Ahead.{ahead_goes_on}
-use Rattle.ic_ends.proofs.Whole.{law_goes_on, emission_goes_on}
-use Rattle.ic_ends.proofs.NoughtPoints.{nought_point}
+use Rattle.ic_timed_sender.specs.Timed.{TimedState}
+use Rattle.ic_timed_sender.specs.Standing.{Stands as SenderStands}
+use Rattle.ic_hub_laws.specs.Entries.{IsNought, Clears, Leaves}
+use Rattle.ic_hub_laws.specs.Laws.{AboutNone}
+use Rattle.ic_hub_laws.proofs.Lives.{lives_until, left_tops}
+use Rattle.ic_hub_laws.proofs.Ahead.{ahead_goes_on}
+use Rattle.ic_hub_laws.proofs.Whole.{law_goes_on, emission_goes_on}
+use Rattle.ic_hub_laws.proofs.NoughtPoints.{nought_point}
 use Rattle.ic_hub.specs.Hubbing.{Hubbing, Living, IsLiving, IsOfHub, keys_in, Ascend, IsHub, place_in}
 use Rattle.ic_hub.specs.Calls.{IsLiveIn}
 use Rattle.ic_hub.specs.Entries.{clear_entry, leave_entry}
@@ -49,17 +49,17 @@ use Rattle.ic_hub.proofs.Moving.{AllStand, same_queries, ends_keep, nought_livin
 -- ---- one end
 
 -- the end of a sender's slot
-record IsSent (l : Living) (o : OutgoingState) (end : ConnEnd) : Type 0 where
+record IsSent (l : Living) (o : TimedState) (end : ConnEnd) : Type 0 where
   pub is : o.sending.end ≡ end
   pub sends : end.sending ≡ true
 
-is_sent : (l : Living) (place : ℕ) (o : OutgoingState) (end : ConnEnd) → IsLiving l → slice_get l.senders place ≡ Some o → slice_get (sending_ends l.ends) place ≡ Some end → IsSent l o end
+is_sent : (l : Living) (place : ℕ) (o : TimedState) (end : ConnEnd) → IsLiving l → slice_get l.senders place ≡ Some o → slice_get (sending_ends l.ends) place ≡ Some end → IsSent l o end
 is_sent l place o end living here at =
-    let there = ap (λ xs. slice_get xs place) (sym living.senders) ∙ map_at (λ (x : OutgoingState). x.sending.end) l.senders place o here in
+    let there = ap (λ xs. slice_get xs place) (sym living.senders) ∙ map_at (λ (x : TimedState). x.sending.end) l.senders place o here in
     let both : Some o.sending.end ≡ Some end = sym there ∙ at in
     record { is = cc; sends = ((ends_have_their_sides l.ends end).0.0 (at_contains (sending_ends l.ends) place end at)).1 }
 
-pub sender_tells : (l : Living) (place : ℕ) (o : OutgoingState) (over : Bool) → IsLiving l → slice_get l.senders place ≡ Some o → ((h : List Entry) → SenderStands o h → IsTrue over ↔ IsOverIn o.sending.end.key h) → TellsClear l (Sender place) over
+pub sender_tells : (l : Living) (place : ℕ) (o : TimedState) (over : Bool) → IsLiving l → slice_get l.senders place ≡ Some o → ((h : List Entry) → SenderStands o h → IsTrue over ↔ IsOverIn o.sending.end.key h) → TellsClear l (Sender place) over
 sender_tells l place o over living here tells =
     record {
       clear = λ sure settings h end stands at.
@@ -103,7 +103,7 @@ length_map f [] = refl
 length_map f (x ∷ xs) = ap suc (length_map f xs)
 
 pub sender_within : (l : Living) (place : ℕ) → IsLiving l → place < length (sending_ends l.ends) → place < length l.senders
-sender_within l place living less = subst (λ n. place < n) (ap length (sym living.senders) ∙ length_map (λ (o : OutgoingState). o.sending.end) l.senders) less
+sender_within l place living less = subst (λ n. place < n) (ap length (sym living.senders) ∙ length_map (λ (o : TimedState). o.sending.end) l.senders) less
 
 pub receiver_within : (l : Living) (place : ℕ) → IsLiving l → place < length (receiving_ends l.ends) → place < length l.receivers
 receiver_within l place living less = subst (λ n. place < n) (ap length (sym living.receivers) ∙ length_map (λ (r : Receiving). r.end) l.receivers) less

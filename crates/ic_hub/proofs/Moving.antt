@@ -18,27 +18,27 @@ use Rattle.ic_law.specs.Arriving.{IsUnknownKey, IsServed, LastServed, AnswersTak
 use Rattle.ic_law.specs.Emission.{clock_of}
 use Rattle.ic_law.specs.Hub.{HubPoint}
 use Rattle.ic_law.specs.Receiving.{Receives}
-use Rattle.ic_places.specs.Ends.{motions_of}
+use Rattle.ic_conntab.specs.Ends.{motions_of}
 use Rattle.ic_receiver.specs.Receiving.{Receiving}
 use Rattle.ic_receiver.specs.Standing.{Stands as ReceiverStands}
 use Rattle.ic_receiver.proofs.Others.{stands_silent}
 use Rattle.ic_sender.specs.Standing.{KeepsSending}
-use Rattle.ic_outgoing.specs.Outgoing.{OutgoingState, SameEnd}
-use Rattle.ic_outgoing.specs.Standing.{Stands as SenderStands}
-use Rattle.ic_outgoing.proofs.Silence.{others_pass}
+use Rattle.ic_timed_sender.specs.Timed.{TimedState, SameEnd}
+use Rattle.ic_timed_sender.specs.Standing.{Stands as SenderStands}
+use Rattle.ic_timed_sender.proofs.Silence.{others_pass}
 use Rattle.ic_sender.proofs.Passing.{clock_stays}
-use Rattle.ic_ends.specs.Entries.{IsOurs, HasEnd, EndsKeep, AsksOf, OfPut, OfFinish, OfTakeFrom, OfHalt, OfTake, OfArrive, Concerns, IsNought, NoMemory}
-use Rattle.ic_ends.specs.Living.{BeginsNone, LivesOn}
-use Rattle.ic_ends.specs.Laws.{IsAbout, AboutEnd, AboutNone, Goes}
-use Rattle.ic_ends.proofs.Concerned.{still_then, concerned_passes}
-use Rattle.ic_ends.proofs.Lives.{lives_on}
-use Rattle.ic_ends.proofs.Ahead.{ahead_goes_on}
-use Rattle.ic_ends.proofs.Whole.{law_goes_on, emission_goes_on}
-use Rattle.ic_ends.proofs.ConcernedPoints.{concerned_point}
-use Rattle.ic_ends.proofs.Nought.{IsQuiet, quiet, nought_passes}
-use Rattle.ic_ends.proofs.NoughtPoints.{nought_point}
-use Rattle.ic_ends.proofs.Served.{served_before}
-use Rattle.ic_ends.proofs.Beside.{set_cases}
+use Rattle.ic_hub_laws.specs.Entries.{IsOurs, HasEnd, EndsKeep, AsksOf, OfPut, OfFinish, OfTakeFrom, OfHalt, OfTake, OfArrive, Concerns, IsNought, NoMemory}
+use Rattle.ic_hub_laws.specs.Living.{BeginsNone, LivesOn}
+use Rattle.ic_hub_laws.specs.Laws.{IsAbout, AboutEnd, AboutNone, Goes}
+use Rattle.ic_hub_laws.proofs.Concerned.{still_then, concerned_passes}
+use Rattle.ic_hub_laws.proofs.Lives.{lives_on}
+use Rattle.ic_hub_laws.proofs.Ahead.{ahead_goes_on}
+use Rattle.ic_hub_laws.proofs.Whole.{law_goes_on, emission_goes_on}
+use Rattle.ic_hub_laws.proofs.ConcernedPoints.{concerned_point}
+use Rattle.ic_hub_laws.proofs.Nought.{IsQuiet, quiet, nought_passes}
+use Rattle.ic_hub_laws.proofs.NoughtPoints.{nought_point}
+use Rattle.ic_hub_laws.proofs.Served.{served_before}
+use Rattle.ic_hub_laws.proofs.Beside.{set_cases}
 use Rattle.ic_hub.specs.Hubbing.{Hubbing, Living, IsLiving, IsOfHub, place_in}
 use Rattle.ic_hub.specs.Standing.{LivingStands, IsTop, IsAmong, Stands}
 use Rattle.ic_hub.specs.Calls.{SamePlace}
@@ -285,23 +285,23 @@ map_set f [] i x y h same = refl
 map_set f (z ∷ zs) zero x y h same = let is : z ≡ x = cc in ap (λ a. a ∷ map f zs) (same ∙ ap f (sym is))
 map_set f (z ∷ zs) (suc i) x y h same = ap (λ rest. f z ∷ rest) (map_set f zs i x y h same)
 
-abbrev pub with_sender : Living → ℕ → OutgoingState → Living
+abbrev pub with_sender : Living → ℕ → TimedState → Living
 with_sender l i o = record l { senders = set l.senders i o }
 
 abbrev pub with_receiver : Living → ℕ → Receiving → Living
 with_receiver l i r = record l { receivers = set l.receivers i r }
 
 -- a sender of the same end keeps the query whole
-pub sender_living : (l : Living) (i : ℕ) (old new : OutgoingState) → IsLiving l → slice_get l.senders i ≡ Some old → new.sending.end ≡ old.sending.end → IsLiving (with_sender l i new)
+pub sender_living : (l : Living) (i : ℕ) (old new : TimedState) → IsLiving l → slice_get l.senders i ≡ Some old → new.sending.end ≡ old.sending.end → IsLiving (with_sender l i new)
 sender_living l i old new living here same =
-    record { senders = map_set (λ (o : OutgoingState). o.sending.end) l.senders i old new here same ∙ living.senders; receivers = living.receivers; served = living.served }
+    record { senders = map_set (λ (o : TimedState). o.sending.end) l.senders i old new here same ∙ living.senders; receivers = living.receivers; served = living.served }
 
 pub receiver_living : (l : Living) (i : ℕ) (old new : Receiving) → IsLiving l → slice_get l.receivers i ≡ Some old → new.end ≡ old.end → IsLiving (with_receiver l i new)
 receiver_living l i old new living here same =
     record { senders = living.senders; receivers = map_set (λ (r : Receiving). r.end) l.receivers i old new here same ∙ living.receivers; served = living.served }
 
 -- a sender with its end, its settings and its tick keeps what is always true of its query
-pub sender_keeps : (place : Place) (tick : ℕ) (l : Living) (i : ℕ) (old new : OutgoingState) → IsLiving l → IsOfHub place tick l → slice_get l.senders i ≡ Some old → SameEnd old new → new.now ≡ old.now
+pub sender_keeps : (place : Place) (tick : ℕ) (l : Living) (i : ℕ) (old new : TimedState) → IsLiving l → IsOfHub place tick l → slice_get l.senders i ≡ Some old → SameEnd old new → new.now ≡ old.now
     → IsLiving (with_sender l i new) × IsOfHub place tick (with_sender l i new)
 sender_keeps place tick l i old new living of_hub here same tick_is =
     let keeps = sender_living l i old new living here same.end in (
@@ -340,7 +340,7 @@ takes_none place c h e (OfTake is session to parcel ds asked replied f) query mo
 takes_none place c h e (OfArrive d asked packet directed) query motion w = let bad : Arrive d ≡ Take query motion = sym asked ∙ w in cc
 
 -- the hub stands on where one sender does
-pub sender_moved : (s : Hubbing) (h : List Entry) (e : Entry) (q i : ℕ) (l : Living) (old new : OutgoingState) → Shaped s → Stands s h → slice_get s.live q ≡ Some l → slice_get l.senders i ≡ Some old
+pub sender_moved : (s : Hubbing) (h : List Entry) (e : Entry) (q i : ℕ) (l : Living) (old new : TimedState) → Shaped s → Stands s h → slice_get s.live q ≡ Some l → slice_get l.senders i ≡ Some old
     → SameEnd old new → new.now ≡ old.now → SenderStands new (h ++ e ∷ []) → Concerns (place_in s) old.sending.end.key true e
     → (e.reply ≢ Memory → IsAllowed (place_in s) h e.ask) → ((d : Datagram) → Contains (emits e) d → IsFormed (place_in s) d) → Stands (with_query s q (with_sender l i new)) (h ++ e ∷ [])
 sender_moved s h e q i l old new shaped stands here at same tick moved about allowed formed =

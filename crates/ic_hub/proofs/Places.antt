@@ -6,10 +6,10 @@ use Rattle.ic_base.specs.declared.keys.ConnEnd.{ConnEnd}
 use Rattle.ic_base.specs.declared.keys.ConnKey.{ConnKey}
 use Rattle.ic_law.specs.Points.{Place}
 use Rattle.ic_law.specs.Asking.{AreEnds}
-use Rattle.ic_places.specs.Ends.{sending_ends, receiving_ends}
-use Rattle.ic_places.proofs.Named.{ends_have_their_sides}
+use Rattle.ic_conntab.specs.Ends.{sending_ends, receiving_ends}
+use Rattle.ic_conntab.proofs.Named.{ends_have_their_sides}
 use Rattle.ic_receiver.specs.Receiving.{Receiving}
-use Rattle.ic_outgoing.specs.Outgoing.{OutgoingState}
+use Rattle.ic_timed_sender.specs.Timed.{TimedState}
 use Rattle.ic_hub.specs.Hubbing.{Hubbing, Living, IsLiving, IsOfHub, place_in}
 
 -- ---- lists
@@ -47,14 +47,14 @@ pub record Shaped (s : Hubbing) : Type 0 where
 -- the connection of a sending end of a query
 pub record SenderOf (l : Living) (end : ConnEnd) : Type 0 where
   pub at : ℕ
-  pub sender : OutgoingState
+  pub sender : TimedState
   pub here : slice_get l.senders at ≡ Some sender
   pub is : sender.sending.end ≡ end
 
 pub sender_of : (l : Living) (end : ConnEnd) → IsLiving l → Contains l.ends end → end.sending ≡ true → SenderOf l end
 sender_of l end living has sends =
     let there = contains_at (sending_ends l.ends) end ((ends_have_their_sides l.ends end).0.1 (has, sends)) in
-    let found = at_map (λ (o : OutgoingState). o.sending.end) l.senders there.0 end (ap (λ xs. slice_get xs there.0) living.senders ∙ there.1) in
+    let found = at_map (λ (o : TimedState). o.sending.end) l.senders there.0 end (ap (λ xs. slice_get xs there.0) living.senders ∙ there.1) in
     record { at = there.0; sender = found.0; here = found.1; is = found.2 }
 
 -- the connection of a receiving end
@@ -77,9 +77,9 @@ pub record EndOf (l : Living) (end : ConnEnd) (side : Bool) : Type 0 where
   pub has : Contains l.ends end
   pub side_is : end.sending ≡ side
 
-pub end_of_sender : (l : Living) (i : ℕ) (o : OutgoingState) → IsLiving l → slice_get l.senders i ≡ Some o → EndOf l o.sending.end true
+pub end_of_sender : (l : Living) (i : ℕ) (o : TimedState) → IsLiving l → slice_get l.senders i ≡ Some o → EndOf l o.sending.end true
 end_of_sender l i o living here =
-    let there : slice_get (sending_ends l.ends) i ≡ Some o.sending.end = ap (λ xs. slice_get xs i) (sym living.senders) ∙ map_at (λ (x : OutgoingState). x.sending.end) l.senders i o here in
+    let there : slice_get (sending_ends l.ends) i ≡ Some o.sending.end = ap (λ xs. slice_get xs i) (sym living.senders) ∙ map_at (λ (x : TimedState). x.sending.end) l.senders i o here in
     let is = (ends_have_their_sides l.ends o.sending.end).0.0 (at_contains (sending_ends l.ends) i o.sending.end there) in
     record { has = is.0; side_is = is.1 }
 
@@ -166,7 +166,7 @@ pub some_one : {A : Type 0} (a b : A) → Some a ≡ Some b → a ≡ b
 some_one a b h = cc
 
 -- two senders of one key are one
-pub one_sender : (s : Hubbing) (q r i j : ℕ) (l m : Living) (o p : OutgoingState) → Shaped s → slice_get s.live q ≡ Some l → slice_get s.live r ≡ Some m → slice_get l.senders i ≡ Some o → slice_get m.senders j ≡ Some p
+pub one_sender : (s : Hubbing) (q r i j : ℕ) (l m : Living) (o p : TimedState) → Shaped s → slice_get s.live q ≡ Some l → slice_get s.live r ≡ Some m → slice_get l.senders i ≡ Some o → slice_get m.senders j ≡ Some p
     → o.sending.end.key ≡ p.sending.end.key → IsOne q r i j
 one_sender s q r i j l m o p shaped lq mr oi pj key =
     let eo = end_of_sender l i o (shaped.living q l lq) oi in
@@ -175,8 +175,8 @@ one_sender s q r i j l m o p shaped lq mr oi pj key =
     let place = shaped.apart q r l m lq mr number in
     let same : m ≡ l = some_one m l (sym mr ∙ ap (λ n. slice_get s.live n) (sym place) ∙ lq) in
     let pj' : slice_get l.senders j ≡ Some p = ap (λ (x : Living). slice_get x.senders j) (sym same) ∙ pj in
-    let ends : (k : ℕ) (x : OutgoingState) → slice_get l.senders k ≡ Some x → slice_get (sending_ends l.ends) k ≡ Some x.sending.end =
-    λ k x at. ap (λ xs. slice_get xs k) (sym (shaped.living q l lq).senders) ∙ map_at (λ (y : OutgoingState). y.sending.end) l.senders k x at in
+    let ends : (k : ℕ) (x : TimedState) → slice_get l.senders k ≡ Some x → slice_get (sending_ends l.ends) k ≡ Some x.sending.end =
+    λ k x at. ap (λ xs. slice_get xs k) (sym (shaped.living q l lq).senders) ∙ map_at (λ (y : TimedState). y.sending.end) l.senders k x at in
     record {
       query = place;
       place = one_place (place_in s) l.number l.ends (λ e. e.sending) true i j o.sending.end p.sending.end (shaped.of_hub q l lq).ends (ends i o oi) (ends j p pj') eo.side_is ep.side_is key;

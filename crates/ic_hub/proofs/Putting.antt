@@ -26,10 +26,10 @@ use Rattle.ic_sender.specs.declared.send_no.SendNo.TheVariants as send
 use Rattle.ic_sender.specs.Sending.{Sending}
 use Rattle.ic_sender.specs.Entries.{IsPutting, IsFinishing}
 use Rattle.ic_sender.specs.Entries.{gave_of as gave}
-use Rattle.ic_outgoing.specs.Outgoing.{OutgoingState, SameEnd}
-use Rattle.ic_outgoing.specs.Emitted.{IsOutgoingOf, AreOutgoing}
-use Rattle.ic_outgoing.specs.Standing.{Stands as SenderStands}
-use Rattle.ic_ends.specs.Entries.{IsPacketOf, IsOurs, AsksOf, OfPut, OfFinish, UnknownPut, UnknownFinish}
+use Rattle.ic_timed_sender.specs.Timed.{TimedState, SameEnd}
+use Rattle.ic_timed_sender.specs.Emitted.{IsOutgoingOf, AreOutgoing}
+use Rattle.ic_timed_sender.specs.Standing.{Stands as SenderStands}
+use Rattle.ic_hub_laws.specs.Entries.{IsPacketOf, IsOurs, AsksOf, OfPut, OfFinish, UnknownPut, UnknownFinish}
 use Rattle.ic_hub.specs.Hubbing.{Hubbing, Living, IsOfHub, place_in}
 use Rattle.ic_hub.specs.Entries.{gave_of, put_entry, finish_entry}
 use Rattle.ic_hub.specs.Finding.{HasNo, SenderIs, FindsSender}
@@ -42,11 +42,11 @@ use Rattle.ic_hub.proofs.Moving.{with_query, with_sender, sender_keeps, sender_m
 pub at_index : {A : Type 0} (xs : List A) (i : ℕ) (x : A) → i < length xs → x ≡ get_or xs i x → slice_get xs i ≡ Some x
 at_index xs i x less is = slice_get-get_or xs i x less ∙ ap Some (sym is)
 
-abbrev pub set_in : Living → ℕ → OutgoingState → Living
+abbrev pub set_in : Living → ℕ → TimedState → Living
 set_in l i o = record l { senders = set l.senders i o }
 
 -- behind the end of stream nothing is put
-pub behind : (place : ℕ) (Is : ConnKey → Result (List Datagram) SendNo → Entry → Type 0) (l : Living) (old : OutgoingState) → slice_get l.senders place ≡ Some old → old.sending.finished ≡ true → PutsOn place Is l l (Err no.Memory)
+pub behind : (place : ℕ) (Is : ConnKey → Result (List Datagram) SendNo → Entry → Type 0) (l : Living) (old : TimedState) → slice_get l.senders place ≡ Some old → old.sending.finished ≡ true → PutsOn place Is l l (Err no.Memory)
 behind place Is l old here finished = Behind old here finished refl refl
 
 -- ---- replies
@@ -107,14 +107,14 @@ are_formed place end packet d session at is =
 -- ---- one connection moves
 
 -- the end of a sender is one of this place
-pub ours_of : (s : Hubbing) (q i : ℕ) (l : Living) (o : OutgoingState) → Shaped s → slice_get s.live q ≡ Some l → slice_get l.senders i ≡ Some o → IsOurs (place_in s) o.sending.end
+pub ours_of : (s : Hubbing) (q i : ℕ) (l : Living) (o : TimedState) → Shaped s → slice_get s.live q ≡ Some l → slice_get l.senders i ≡ Some o → IsOurs (place_in s) o.sending.end
 ours_of s q i l o shaped here at =
     let its = end_of_sender l i o (shaped.living q l here) at in
     let place = contains_at l.ends o.sending.end its.has in
     all_at (IsOurs (place_in s)) l.ends place.0 o.sending.end (shaped.of_hub q l here).ours place.1
 
 -- the hub stands on with an entry that gives what a sender answered, where that stands on
-gave_stands : (s : Hubbing) (h : List Entry) (q i : ℕ) (l : Living) (old new : OutgoingState) (ask : HubAsk) (answer : Result (List Datagram) SendNo) → Shaped s → Stands s h → slice_get s.live q ≡ Some l → slice_get l.senders i ≡ Some old
+gave_stands : (s : Hubbing) (h : List Entry) (q i : ℕ) (l : Living) (old new : TimedState) (ask : HubAsk) (answer : Result (List Datagram) SendNo) → Shaped s → Stands s h → slice_get s.live q ≡ Some l → slice_get l.senders i ≡ Some old
     → SameEnd old new → new.now ≡ old.now → SenderStands new (h ++ record { ask = ask; reply = gave answer } ∷ []) → AsksOf (place_in s) old.sending.end.key true (record { ask = ask; reply = gave answer }) → IsReplyTo ask (gave answer)
     → IfOk answer (AreOutgoing old.sending) → (gave answer ≢ Memory → IsAllowed (place_in s) h ask) → Stands (with_query s q (with_sender l i new)) (h ++ record { ask = ask; reply = gave answer } ∷ [])
 gave_stands s h q i l old new ask answer shaped stands here at same now moved asks replied formed allowed =
@@ -125,7 +125,7 @@ gave_stands s h q i l old new ask answer shaped stands here at same now moved as
     (λ d c. are_formed (place_in s) old.sending.end old.sending.settings.packet d ours.session (ours.sends_here sends) (gave_emits old.sending answer formed d c))
 
 -- nothing is put behind the end of stream
-goes_on : (h : List Entry) (o : OutgoingState) → SenderStands o h → o.sending.finished ≡ false → GoesOn h o.sending.end.key
+goes_on : (h : List Entry) (o : TimedState) → SenderStands o h → o.sending.finished ≡ false → GoesOn h o.sending.end.key
 goes_on h o stands unfinished end here same sends finished = let bad : true ≡ false = sym finished ∙ stands.finished ∙ unfinished in cc
 
 -- ---- puts
@@ -148,7 +148,7 @@ put_stands s h key chunk q i l after result shaped stands found here (Answered a
     let same_l : l ≡ found.living = cc in
     let o_is : Some old ≡ Some found.sender = sym moves.here ∙ ap (λ (x : Living). slice_get x.senders i) same_l ∙ found.here in
     let same_o : old ≡ found.sender = cc in
-    let key_is : old.sending.end.key ≡ key = ap (λ (o : OutgoingState). o.sending.end.key) same_o ∙ found.is in
+    let key_is : old.sending.end.key ≡ key = ap (λ (o : TimedState). o.sending.end.key) same_o ∙ found.is in
     let e : Entry = record { ask = Put old.sending.end.key chunk; reply = gave answer } in
     let was = (stands.each q l here).senders i old moves.here in
     let moved = moves.stands h e (record { ask = refl; reply = refl }) was in
@@ -177,7 +177,7 @@ finish_stands s h key q i l after result shaped stands found here (Answered answ
     let same_l : l ≡ found.living = cc in
     let o_is : Some old ≡ Some found.sender = sym moves.here ∙ ap (λ (x : Living). slice_get x.senders i) same_l ∙ found.here in
     let same_o : old ≡ found.sender = cc in
-    let key_is : old.sending.end.key ≡ key = ap (λ (o : OutgoingState). o.sending.end.key) same_o ∙ found.is in
+    let key_is : old.sending.end.key ≡ key = ap (λ (o : TimedState). o.sending.end.key) same_o ∙ found.is in
     let e : Entry = record { ask = Finish old.sending.end.key; reply = gave answer } in
     let was = (stands.each q l here).senders i old moves.here in
     let moved = moves.stands h e (record { ask = refl; reply = refl }) was in
@@ -198,7 +198,7 @@ chunk_least place chunk puttable =
 pub fits_all : (place : Place) (tick : ℕ) (l : Living) (chunk : List ℕ) → IsOfHub place tick l → IsPuttable place chunk → FitsAll l (length chunk)
 fits_all place tick l chunk of_hub puttable = go l.senders of_hub.settings
   where
-    go : (os : List OutgoingState) → AllByRecursion (λ (o : OutgoingState). o.sending.settings ≡ place.settings) os → AllByRecursion (λ (o : OutgoingState). length chunk + 68 ≤ o.sending.settings.packet) os
+    go : (os : List TimedState) → AllByRecursion (λ (o : TimedState). o.sending.settings ≡ place.settings) os → AllByRecursion (λ (o : TimedState). length chunk + 68 ≤ o.sending.settings.packet) os
     go [] all = tt
     go (o ∷ os) all = (subst (λ (x : Settings). length chunk + 68 ≤ x.packet) (sym all.0) puttable.room, go os all.1)
 

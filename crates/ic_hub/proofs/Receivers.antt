@@ -10,7 +10,7 @@ use Rattle.ic_receiver.specs.declared.take_no.TakeNo.TheVariants as taking
 use Rattle.ic_receiver.specs.Receiving.{Receiving, IsEmpty, IsOver, Halts, HaltsAgain, HaltsNow}
 use Rattle.ic_receiver.specs.Entries.{IsRefusing}
 use Rattle.ic_receiver.specs.Standing.{StandsOn}
-use Rattle.ic_places.specs.Ends.{motions_of, receivers_of}
+use Rattle.ic_conntab.specs.Ends.{motions_of, receivers_of}
 use Rattle.ic_hub.specs.Hubbing.{Living, IsLiving}
 use Rattle.ic_hub.specs.Calls.{take_no}
 use Rattle.ic_hub.proofs.Moving.{receiver_living}

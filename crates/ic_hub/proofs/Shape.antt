@@ -2,7 +2,7 @@
 use Rattle.std.proofs.Common.{◌≡◌, ◌<◌, ℕ, zero, suc, List, [], ◌∷◌, set, cond, ◌==◌, Some, None, refl, ap, sym, ◌∙◌, subst, arith, inl, inr, slice_get}
 use Rattle.std.specs.List.{AllByRecursion}
 use Rattle.ic_conntab.specs.Table.{Table}
-use Rattle.ic_places.specs.Ends.{keys_of}
+use Rattle.ic_conntab.specs.Ends.{keys_of}
 use Rattle.ic_hub.specs.Hubbing.{Hubbing, Living, IsOfHub, keys_in, Ascend, IsHub, place_in}
 use Rattle.ic_hub.proofs.Places.{Shaped, all_at, apart_or_same}
 

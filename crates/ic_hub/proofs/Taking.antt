@@ -18,14 +18,14 @@ use Rattle.ic_law.specs.Points.{IsFormed}
 use Rattle.ic_law.specs.Asking.{IsAllowed, AreEnds}
 use Rattle.ic_law.specs.Arriving.{IsUnknownKey, unknown}
 use Rattle.ic_law.proofs.Lists.{Contains-none, Contains-one}
-use Rattle.ic_outgoing.specs.Outgoing.{OutgoingState}
+use Rattle.ic_timed_sender.specs.Timed.{TimedState}
 use Rattle.ic_receiver.specs.Receiving.{Receiving, HandsOver, Halts, HaltsAgain, HaltsNow}
 use Rattle.ic_receiver.specs.Entries.{list_of}
 use Rattle.ic_receiver.specs.Standing.{Stands as ReceiverStands}
-use Rattle.ic_ends.specs.Entries.{IsOurs, OfTakeFrom, OfHalt, Concerns, NoMemory, UnknownHalt, UnknownTakeFrom}
-use Rattle.ic_ends.specs.Formed.{IsFormedOf}
-use Rattle.ic_ends.proofs.Forms.{answers_formed}
-use Rattle.ic_ends.proofs.Served.{served_before}
+use Rattle.ic_hub_laws.specs.Entries.{IsOurs, OfTakeFrom, OfHalt, Concerns, NoMemory, UnknownHalt, UnknownTakeFrom}
+use Rattle.ic_hub_laws.specs.Formed.{IsFormedOf}
+use Rattle.ic_hub_laws.proofs.Forms.{answers_formed}
+use Rattle.ic_hub_laws.proofs.Served.{served_before}
 use Rattle.ic_hub.specs.Hubbing.{Hubbing, Living, IsLiving, IsOfHub, IsHub, place_in}
 use Rattle.ic_hub.specs.Standing.{Stands}
 use Rattle.ic_hub.specs.Finding.{HasNo, ReceiverIs}
@@ -206,8 +206,8 @@ of_hub_with s l m of_hub living number ends senders =
       living = living;
       ends = subst (λ n. AreEnds (place_in s) n m.ends) (sym number) (subst (λ x. AreEnds (place_in s) l.number x) (sym ends) of_hub.ends);
       ours = subst (λ x. AllByRecursion (IsOurs (place_in s)) x) (sym ends) of_hub.ours;
-      settings = subst (λ x. AllByRecursion (λ (o : OutgoingState). o.sending.settings ≡ s.settings) x) (sym senders) of_hub.settings;
-      tick_is = subst (λ x. AllByRecursion (λ (o : OutgoingState). o.now ≡ s.tick) x) (sym senders) of_hub.tick_is;
+      settings = subst (λ x. AllByRecursion (λ (o : TimedState). o.sending.settings ≡ s.settings) x) (sym senders) of_hub.settings;
+      tick_is = subst (λ x. AllByRecursion (λ (o : TimedState). o.now ≡ s.tick) x) (sym senders) of_hub.tick_is;
     }
 
 -- the hub with such a query is what a hub always is

@@ -17,14 +17,14 @@ use Rattle.ic_law.specs.declared.history.Entry.{Entry}
 use Rattle.ic_law.specs.Points.{IsEnded}
 use Rattle.ic_law.specs.Receiving.{IsTaking, IsNext}
 use Rattle.ic_law.specs.Arriving.{IsOfMotion, IsReady as IsReadyIn, LastServed, ComesBefore, AnswersTakeAny, AllOver, NoneReady, Serves, unknown}
-use Rattle.ic_places.specs.Ends.{receiving_ends, motions_of, receivers_of}
-use Rattle.ic_places.proofs.Named.{ends_have_their_sides, motions_are_received, motions_differ, receivers_have_the_motion}
+use Rattle.ic_conntab.specs.Ends.{receiving_ends, motions_of, receivers_of}
+use Rattle.ic_conntab.proofs.Named.{ends_have_their_sides, motions_are_received, motions_differ, receivers_have_the_motion}
 use Rattle.ic_receiver.specs.Receiving.{Receiving, IsEmpty, IsOver, IsReady, HandsOver}
 use Rattle.ic_recvring.specs.Ring.{front_of}
 use Rattle.ic_receiver.specs.Standing.{Stands as ReceiverStands, StandsOn, TakesNow}
-use Rattle.ic_ends.specs.Entries.{OfTake, NoMemory, UnknownTake, RefusedTake}
-use Rattle.ic_ends.proofs.Served.{served_before, served_now}
-use Rattle.ic_ends.proofs.Beside.{set_cases}
+use Rattle.ic_hub_laws.specs.Entries.{OfTake, NoMemory, UnknownTake, RefusedTake}
+use Rattle.ic_hub_laws.proofs.Served.{served_before, served_now}
+use Rattle.ic_hub_laws.proofs.Beside.{set_cases}
 use Rattle.ic_hub.specs.Hubbing.{Hubbing, Living, IsLiving, IsOfHub, IsHub, place_in}
 use Rattle.ic_hub.specs.Standing.{Stands}
 use Rattle.ic_hub.specs.Entries.{take_entry}

@@ -4,7 +4,7 @@ use Rattle.std.specs.Result.{IfErr, IsErr, IsErrAnd}
 use Rattle.std.specs.List.{AllByRecursion, flat_map}
 use Rattle.std.proofs.lemmas.Option.{slice_get_within, slice_get-get_or, get_or_from_slice_get}
 use Rattle.ic_conntab.specs.Table.{Table}
-use Rattle.ic_places.specs.Ends.{keys_of}
+use Rattle.ic_conntab.specs.Ends.{keys_of}
 use Rattle.ic_law.specs.Points.{Place}
 use Rattle.ic_law.specs.declared.history.Entry.{Entry}
 use Rattle.ic_law.specs.declared.history.TickNo.{TickNo}
@@ -13,15 +13,15 @@ use Rattle.ic_sender.specs.declared.send_no.SendNo.{SendNo}
 use Rattle.ic_sender.specs.declared.send_no.SendNo.TheVariants as send
 use Rattle.ic_sender.specs.Sending.{Sending}
 use Rattle.ic_sender.specs.Entries.{IsTicking}
-use Rattle.ic_outgoing.specs.Outgoing.{OutgoingState, SameEnd, next_tick, datagrams_due, queries_due, ticking}
-use Rattle.ic_outgoing.specs.Standing.{Tells, StandsNext}
+use Rattle.ic_timed_sender.specs.Timed.{TimedState, SameEnd, next_tick, datagrams_due, queries_due, ticking}
+use Rattle.ic_timed_sender.specs.Standing.{Tells, StandsNext}
 use Rattle.ic_hub.specs.Hubbing.{Hubbing, Living, IsLiving, IsOfHub, keys_in, Ascend, IsHub, place_in}
 use Rattle.ic_hub.specs.Ticking.{RefusedFor, GivenUp, Roomless, RefusedFirst, Passes, tick_no, ticked_query, ticked}
 use Rattle.ic_hub.proofs.Places.{at_map, map_at, apart_or_same}
 
 -- ---- one connection
 
-pub refused_for : (A : Type 0) (Keeps : Sending → List Entry → Type 0) (GivesUp : Sending → ℕ → List Entry → Type 0) (o : OutgoingState) (no : SendNo) → Tells {A = A} o Keeps GivesUp (Err no) → RefusedFor GivesUp o (tick_no no)
+pub refused_for : (A : Type 0) (Keeps : Sending → List Entry → Type 0) (GivesUp : Sending → ℕ → List Entry → Type 0) (o : TimedState) (no : SendNo) → Tells {A = A} o Keeps GivesUp (Err no) → RefusedFor GivesUp o (tick_no no)
 refused_for A Keeps GivesUp o send.Full tells = Roomless refl
 refused_for A Keeps GivesUp o send.Stopped tells = Roomless refl
 refused_for A Keeps GivesUp o (send.TooLong key) tells = Roomless refl
@@ -163,7 +163,7 @@ planned_items items f xs plans i x v are at is =
     ap items (is ∙ get_or_from_slice_get plans i w.0 v w.1) ∙ w.2
 
 -- a sender passes by what its half of the tick promises
-pub passes : (o now : OutgoingState) → now ≡ ticking o → SameEnd o now → StandsNext o now (IsTicking o.sending.end.key (datagrams_due o ++ queries_due o)) → Passes o
+pub passes : (o now : TimedState) → now ≡ ticking o → SameEnd o now → StandsNext o now (IsTicking o.sending.end.key (datagrams_due o ++ queries_due o)) → Passes o
 passes o now is end stands = record {
   end = subst (SameEnd o) is end;
   stands = subst (λ n. StandsNext o n (IsTicking o.sending.end.key (datagrams_due o ++ queries_due o))) is stands;
@@ -180,9 +180,9 @@ lent {A = A} n now items is = ap (λ k. take k (now ++ drop (length now) items))
 -- ---- what is always true
 
 -- each connection keeps its end
-same_ends : (xs : List OutgoingState) → AllByRecursion Passes xs → map (λ (o : OutgoingState). o.sending.end) (map ticking xs) ≡ map (λ (o : OutgoingState). o.sending.end) xs
+same_ends : (xs : List TimedState) → AllByRecursion Passes xs → map (λ (o : TimedState). o.sending.end) (map ticking xs) ≡ map (λ (o : TimedState). o.sending.end) xs
 same_ends [] all = refl
-same_ends (o ∷ xs) all = ap (λ e. e ∷ map (λ (x : OutgoingState). x.sending.end) (map ticking xs)) all.0.end.end ∙ ap (λ es. o.sending.end ∷ es) (same_ends xs all.1)
+same_ends (o ∷ xs) all = ap (λ e. e ∷ map (λ (x : TimedState). x.sending.end) (map ticking xs)) all.0.end.end ∙ ap (λ es. o.sending.end ∷ es) (same_ends xs all.1)
 
 pub living_ticked : (l : Living) → IsLiving l → AllByRecursion Passes l.senders → IsLiving (ticked_query l)
 living_ticked l living all = record { senders = same_ends l.senders all ∙ living.senders; receivers = living.receivers; served = living.served }
@@ -200,10 +200,10 @@ of_hub_ticked place tick l of_hub all = record {
   living = living_ticked l of_hub.living all;
   ends = of_hub.ends;
   ours = of_hub.ours;
-  settings = all_mapped (λ (o : OutgoingState). o.sending.settings ≡ place.settings) ticking l.senders
-      (all_both (λ (o : OutgoingState). o.sending.settings ≡ place.settings) Passes (λ o. (ticking o).sending.settings ≡ place.settings) l.senders (λ o is passes. passes.end.settings ∙ is) of_hub.settings all);
-  tick_is = all_mapped (λ (o : OutgoingState). o.now ≡ next_tick tick) ticking l.senders
-      (all_both (λ (o : OutgoingState). o.now ≡ tick) Passes (λ o. (ticking o).now ≡ next_tick tick) l.senders (λ o is passes. ap next_tick is) of_hub.tick_is all);
+  settings = all_mapped (λ (o : TimedState). o.sending.settings ≡ place.settings) ticking l.senders
+      (all_both (λ (o : TimedState). o.sending.settings ≡ place.settings) Passes (λ o. (ticking o).sending.settings ≡ place.settings) l.senders (λ o is passes. passes.end.settings ∙ is) of_hub.settings all);
+  tick_is = all_mapped (λ (o : TimedState). o.now ≡ next_tick tick) ticking l.senders
+      (all_both (λ (o : TimedState). o.now ≡ tick) Passes (λ o. (ticking o).now ≡ next_tick tick) l.senders (λ o is passes. ap next_tick is) of_hub.tick_is all);
 }
 
 keys_ticked : (live : List Living) (query : ℕ) → keys_in (map ticked_query live) query ≡ keys_in live query

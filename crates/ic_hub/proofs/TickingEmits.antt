@@ -13,10 +13,10 @@ use Rattle.ic_law.specs.Points.{IsFormed}
 use Rattle.ic_law.specs.Emission.{queries_in}
 use Rattle.ic_law.proofs.Lists.{flat_map-append, Contains-flat_map, Contains-middle}
 use Rattle.ic_sender.specs.Entries.{AreAmong}
-use Rattle.ic_outgoing.specs.Outgoing.{OutgoingState, datagrams_due, queries_due}
-use Rattle.ic_outgoing.specs.Emitted.{IsOutgoingOf, AreOutgoing}
-use Rattle.ic_ends.specs.Entries.{IsSentHere}
-use Rattle.ic_ends.proofs.Telling.{rows_not, queries_not_of, flat_none}
+use Rattle.ic_timed_sender.specs.Timed.{TimedState, datagrams_due, queries_due}
+use Rattle.ic_timed_sender.specs.Emitted.{IsOutgoingOf, AreOutgoing}
+use Rattle.ic_hub_laws.specs.Entries.{IsSentHere}
+use Rattle.ic_hub_laws.proofs.Telling.{rows_not, queries_not_of, flat_none}
 use Rattle.ic_hub.specs.Hubbing.{Hubbing, Living, place_in}
 use Rattle.ic_hub.specs.Standing.{Stands}
 use Rattle.ic_hub.specs.Ticking.{MayResend, MayAsk, MayTick, emission_of}
@@ -55,7 +55,7 @@ rows_one k end packet d is apart = rows_not k d (record { head = is.head; body =
 queries_one : (k : ConnKey) → ReadsOne k (queries_in k)
 queries_one k end packet d is apart = queries_not_of k d (record { head = is.head; body = is.body }) is.reads (λ same forth. apart (sym is.key ∙ same))
 
-none_of_other : {B : Type 0} (k : ConnKey) (f : Datagram → List B) (o : OutgoingState) (ds : List Datagram) → ReadsOne k f → AreOutgoing o.sending ds → o.sending.end.key ≢ k → flat_map f ds ≡ []
+none_of_other : {B : Type 0} (k : ConnKey) (f : Datagram → List B) (o : TimedState) (ds : List Datagram) → ReadsOne k f → AreOutgoing o.sending ds → o.sending.end.key ≢ k → flat_map f ds ≡ []
 none_of_other k f o ds one formed apart = flat_none f ds (λ d c. one o.sending.end o.sending.settings.packet d (formed d c) apart)
 
 -- each query may tick
@@ -65,18 +65,18 @@ AllMay s = AllByRecursion MayTick s.live
 may_at : (s : Hubbing) (q : ℕ) (l : Living) → AllMay s → slice_get s.live q ≡ Some l → MayTick l
 may_at s q l all at = all_at MayTick s.live q l all at
 
-packets_formed : (s : Hubbing) (q i : ℕ) (l : Living) (o : OutgoingState) → AllMay s → slice_get s.live q ≡ Some l → slice_get l.senders i ≡ Some o → AreOutgoing o.sending (datagrams_due o)
+packets_formed : (s : Hubbing) (q i : ℕ) (l : Living) (o : TimedState) → AllMay s → slice_get s.live q ≡ Some l → slice_get l.senders i ≡ Some o → AreOutgoing o.sending (datagrams_due o)
 packets_formed s q i l o all at here = (all_at MayResend l.senders i o (may_at s q l all at).packets here).formed
 
-queries_formed : (s : Hubbing) (q i : ℕ) (l : Living) (o : OutgoingState) → AllMay s → slice_get s.live q ≡ Some l → slice_get l.senders i ≡ Some o → AreOutgoing o.sending (queries_due o)
+queries_formed : (s : Hubbing) (q i : ℕ) (l : Living) (o : TimedState) → AllMay s → slice_get s.live q ≡ Some l → slice_get l.senders i ≡ Some o → AreOutgoing o.sending (queries_due o)
 queries_formed s q i l o all at here = (all_at MayAsk l.senders i o (may_at s q l all at).queries here).formed
 
 -- what is read of a connection is read of what is due of it
-reads_mine : {B : Type 0} (s : Hubbing) (q i : ℕ) (l : Living) (o : OutgoingState) (f : Datagram → List B) → Shaped s → AllMay s → slice_get s.live q ≡ Some l → slice_get l.senders i ≡ Some o → ReadsOne o.sending.end.key f
+reads_mine : {B : Type 0} (s : Hubbing) (q i : ℕ) (l : Living) (o : TimedState) (f : Datagram → List B) → Shaped s → AllMay s → slice_get s.live q ≡ Some l → slice_get l.senders i ≡ Some o → ReadsOne o.sending.end.key f
     → flat_map f (flat_map emission_of s.live) ≡ flat_map f (datagrams_due o ++ queries_due o)
 reads_mine s q i l o f shaped all at here one =
     flat_one emission_of f s.live q l at (λ r m there apart.
-    let other : (j : ℕ) (p : OutgoingState) → slice_get m.senders j ≡ Some p → p.sending.end.key ≢ o.sending.end.key = (λ j p pj same. apart (one_sender s r q j i m l p o shaped there at pj here same).query) in
+    let other : (j : ℕ) (p : TimedState) → slice_get m.senders j ≡ Some p → p.sending.end.key ≢ o.sending.end.key = (λ j p pj same. apart (one_sender s r q j i m l p o shaped there at pj here same).query) in
     flat_map-append f (flat_map datagrams_due m.senders) (flat_map queries_due m.senders)
     ∙ ap (λ x. x ++ flat_map f (flat_map queries_due m.senders)) (flat_nothing datagrams_due f m.senders (λ j p pj. none_of_other o.sending.end.key f p (datagrams_due p) one (packets_formed s r j m p all there pj) (other j p pj)))
     ∙ flat_nothing queries_due f m.senders (λ j p pj. none_of_other o.sending.end.key f p (queries_due p) one (queries_formed s r j m p all there pj) (other j p pj)))
@@ -94,7 +94,7 @@ pub record EmittedBy (s : Hubbing) (d : Datagram) : Type 0 where
   pub query : ℕ
   pub place : ℕ
   pub living : Living
-  pub sender : OutgoingState
+  pub sender : TimedState
   pub live : slice_get s.live query ≡ Some living
   pub here : slice_get living.senders place ≡ Some sender
   pub has : Contains (datagrams_due sender ++ queries_due sender) d
@@ -145,7 +145,7 @@ formed_here s d shaped all c =
 -- ---- all of them
 
 -- a datagram of one connection is due of it, or of another
-among_each : (s : Hubbing) (q i : ℕ) (l : Living) (o : OutgoingState) (d : Datagram) → Shaped s → AllMay s → slice_get s.live q ≡ Some l → slice_get l.senders i ≡ Some o → Contains (flat_map emission_of s.live) d
+among_each : (s : Hubbing) (q i : ℕ) (l : Living) (o : TimedState) (d : Datagram) → Shaped s → AllMay s → slice_get s.live q ≡ Some l → slice_get l.senders i ≡ Some o → Contains (flat_map emission_of s.live) d
     → Contains (datagrams_due o ++ queries_due o) d ⊎ ((rows_in o.sending.end.key d ≡ []) × (queries_in o.sending.end.key d ≡ []))
 among_each s q i l o d shaped all at here c = by (emitted_by s d c)
   where
@@ -157,7 +157,7 @@ among_each s q i l o d shaped all at here c = by (emitted_by s d c)
         let one = one_sender s w.query q w.place i w.living l w.sender o shaped w.live at w.here here (key_eq-tells w.sender.sending.end.key k same) in
         let its : w.living ≡ l = some_one w.living l (sym w.live ∙ ap (λ n. slice_get s.live n) one.query ∙ at) in
         let is : w.sender ≡ o = some_one w.sender o (sym w.here ∙ ap (λ (x : Living). slice_get x.senders w.place) its ∙ ap (λ n. slice_get l.senders n) one.place ∙ here) in
-        inl (subst (λ (x : OutgoingState). Contains (datagrams_due x ++ queries_due x) d) is w.has)
+        inl (subst (λ (x : TimedState). Contains (datagrams_due x ++ queries_due x) d) is w.has)
     cases w false differ =
         let end = w.sender.sending.end in
         let apart : end.key ≢ k = (λ same. let bad : false ≡ true = sym differ ∙ ap (λ x. key_eq x k) same ∙ key_eq-same k in cc) in
@@ -167,7 +167,7 @@ among_each s q i l o d shaped all at here c = by (emitted_by s d c)
     by : EmittedBy s d → Contains (datagrams_due o ++ queries_due o) d ⊎ ((rows_in k d ≡ []) × (queries_in k d ≡ []))
     by w = cases w (key_eq w.sender.sending.end.key k) refl
 
-pub among : (s : Hubbing) (q i : ℕ) (l : Living) (o : OutgoingState) → Shaped s → AllMay s → slice_get s.live q ≡ Some l → slice_get l.senders i ≡ Some o
+pub among : (s : Hubbing) (q i : ℕ) (l : Living) (o : TimedState) → Shaped s → AllMay s → slice_get s.live q ≡ Some l → slice_get l.senders i ≡ Some o
     → AreAmong o.sending.end.key (datagrams_due o ++ queries_due o) (flat_map emission_of s.live)
 among s q i l o shaped all at here = record {
   rows = reads_mine s q i l o (rows_in o.sending.end.key) shaped all at here (rows_one o.sending.end.key);

@@ -12,13 +12,13 @@ use Rattle.ic_law.specs.declared.history.TickNo.TheVariants as no
 use Rattle.ic_law.specs.Emission.{packets_spent, query_spent, spent_of, spent_timers, spent_query, next_clock, timing_of, IsFirstSpent}
 use Rattle.ic_law.specs.History.{sent_upto}
 use Rattle.ic_law.proofs.Lists.{Contains-none, head_or_tail}
-use Rattle.ic_places.specs.Ends.{sending_ends}
+use Rattle.ic_conntab.specs.Ends.{sending_ends}
 use Rattle.ic_sender.specs.Sending.{Sending}
-use Rattle.ic_outgoing.specs.Outgoing.{OutgoingState}
-use Rattle.ic_outgoing.specs.Standing.{Stands as SenderStands, GivesPacketUp, GivesQueryUp}
-use Rattle.ic_ends.specs.Clocks.{NoPacketSpent, NoQuerySpent, SpendsFirst}
-use Rattle.ic_ends.specs.Entries.{RefusedTick}
-use Rattle.ic_ends.proofs.Spent.{nothing_spent, packet_spent_first, query_spent_first}
+use Rattle.ic_timed_sender.specs.Timed.{TimedState}
+use Rattle.ic_timed_sender.specs.Standing.{Stands as SenderStands, GivesPacketUp, GivesQueryUp}
+use Rattle.ic_hub_laws.specs.Clocks.{NoPacketSpent, NoQuerySpent, SpendsFirst}
+use Rattle.ic_hub_laws.specs.Entries.{RefusedTick}
+use Rattle.ic_hub_laws.proofs.Spent.{nothing_spent, packet_spent_first, query_spent_first}
 use Rattle.ic_hub.specs.Hubbing.{Hubbing, Living, IsLiving, IsHub}
 use Rattle.ic_hub.specs.Entries.{tick_entry}
 use Rattle.ic_hub.specs.Standing.{IsAmong, Stands}
@@ -74,14 +74,14 @@ filter_at {A = A} test (x ∷ xs) at b h = by (λ k. filter_at test xs k b) (tes
 -- what a query has at the tick of a history
 record AtTick (s : Hubbing) (h : List Entry) (l : Living) : Type 0 where
   pub living : IsLiving l
-  pub settings : (i : ℕ) (o : OutgoingState) → slice_get l.senders i ≡ Some o → o.sending.settings ≡ s.settings
-  pub sender : (i : ℕ) (o : OutgoingState) → slice_get l.senders i ≡ Some o → MayResend o → packets_spent s.settings h o.sending.end ≡ []
-  pub asker : (i : ℕ) (o : OutgoingState) → slice_get l.senders i ≡ Some o → MayAsk o → query_spent s.settings h o.sending.end ≡ []
+  pub settings : (i : ℕ) (o : TimedState) → slice_get l.senders i ≡ Some o → o.sending.settings ≡ s.settings
+  pub sender : (i : ℕ) (o : TimedState) → slice_get l.senders i ≡ Some o → MayResend o → packets_spent s.settings h o.sending.end ≡ []
+  pub asker : (i : ℕ) (o : TimedState) → slice_get l.senders i ≡ Some o → MayAsk o → query_spent s.settings h o.sending.end ≡ []
 
 at_tick : (s : Hubbing) (h : List Entry) (q : ℕ) (l : Living) → Shaped s → Stands s h → slice_get s.live q ≡ Some l → AtTick s h l
 at_tick s h q l shaped stands here =
-    let settings : (i : ℕ) (o : OutgoingState) → slice_get l.senders i ≡ Some o → o.sending.settings ≡ s.settings =
-    (λ i o at. all_at (λ (x : OutgoingState). x.sending.settings ≡ s.settings) l.senders i o (shaped.of_hub q l here).settings at) in
+    let settings : (i : ℕ) (o : TimedState) → slice_get l.senders i ≡ Some o → o.sending.settings ≡ s.settings =
+    (λ i o at. all_at (λ (x : TimedState). x.sending.settings ≡ s.settings) l.senders i o (shaped.of_hub q l here).settings at) in
     let was = stands.each q l here in
     record {
       living = shaped.living q l here;
@@ -118,21 +118,21 @@ all_queries s h l its all end c = by_side (query_spent s.settings h) end (receiv
     ap (query_spent s.settings h) (sym w.is) ∙ its.asker w.at w.sender w.here (all_at MayAsk l.senders w.at w.sender all w.here))
 
 -- the ends of a query are cut at a sender's
-cut_ends : (l : Living) (at : ℕ) (o : OutgoingState) → IsLiving l → slice_get l.senders at ≡ Some o → CutAt (λ (e : ConnEnd). e.sending) (sending_ends l.ends) l.ends at o.sending.end
+cut_ends : (l : Living) (at : ℕ) (o : TimedState) → IsLiving l → slice_get l.senders at ≡ Some o → CutAt (λ (e : ConnEnd). e.sending) (sending_ends l.ends) l.ends at o.sending.end
 cut_ends l at o living here =
-    filter_at (λ (e : ConnEnd). e.sending) l.ends at o.sending.end (ap (λ xs. slice_get xs at) (sym living.senders) ∙ map_at (λ (x : OutgoingState). x.sending.end) l.senders at o here)
+    filter_at (λ (e : ConnEnd). e.sending) l.ends at o.sending.end (ap (λ xs. slice_get xs at) (sym living.senders) ∙ map_at (λ (x : TimedState). x.sending.end) l.senders at o here)
 
 -- each sending end of a front is a sender's before it
-before_cut : {B : Type 0} (read : ConnEnd → List B) (May : OutgoingState → Type 0) (l : Living) (at : ℕ) (o : OutgoingState) → IsLiving l → (cut : CutAt (λ (e : ConnEnd). e.sending) (sending_ends l.ends) l.ends at o.sending.end)
-    → ((end : ConnEnd) → end.sending ≡ false → read end ≡ []) → ((i : ℕ) (p : OutgoingState) → slice_get l.senders i ≡ Some p → May p → read p.sending.end ≡ [])
-    → ((i : ℕ) (p : OutgoingState) → i < at → slice_get l.senders i ≡ Some p → May p) → (end : ConnEnd) → Contains cut.front end → read end ≡ []
+before_cut : {B : Type 0} (read : ConnEnd → List B) (May : TimedState → Type 0) (l : Living) (at : ℕ) (o : TimedState) → IsLiving l → (cut : CutAt (λ (e : ConnEnd). e.sending) (sending_ends l.ends) l.ends at o.sending.end)
+    → ((end : ConnEnd) → end.sending ≡ false → read end ≡ []) → ((i : ℕ) (p : TimedState) → slice_get l.senders i ≡ Some p → May p → read p.sending.end ≡ [])
+    → ((i : ℕ) (p : TimedState) → i < at → slice_get l.senders i ≡ Some p → May p) → (end : ConnEnd) → Contains cut.front end → read end ≡ []
 before_cut read May l at o living cut receives sends before end c = by_side read end (receives end) (λ is.
     let v = cut.before end c is in
-    let w = at_map (λ (x : OutgoingState). x.sending.end) l.senders v.0 end (ap (λ xs. slice_get xs v.0) living.senders ∙ v.2) in
+    let w = at_map (λ (x : TimedState). x.sending.end) l.senders v.0 end (ap (λ xs. slice_get xs v.0) living.senders ∙ v.2) in
     ap read (sym w.2) ∙ sends v.0 w.0 w.1 (before v.0 w.0 v.1 w.1))
 
 -- a query gives this up first
-packet_first : (s : Hubbing) (h : List Entry) (l : Living) (at : ℕ) (o : OutgoingState) (seq : ℕ) → AtTick s h l → slice_get l.senders at ≡ Some o → ((i : ℕ) (p : OutgoingState) → i < at → slice_get l.senders i ≡ Some p → MayResend p)
+packet_first : (s : Hubbing) (h : List Entry) (l : Living) (at : ℕ) (o : TimedState) (seq : ℕ) → AtTick s h l → slice_get l.senders at ≡ Some o → ((i : ℕ) (p : TimedState) → i < at → slice_get l.senders i ≡ Some p → MayResend p)
     → GivesPacketUp o.sending seq h → SpendsFirst s.settings h l.ends (o.sending.end.key, seq)
 packet_first s h l at o seq its here before up =
     let cut = cut_ends l at o its.living here in
@@ -141,8 +141,8 @@ packet_first s h l at o seq its here before up =
     let first = subst (λ x. packets_spent x h o.sending.end ≡ (o.sending.end.key, seq) ∷ up.more) (its.settings at o here) (up.packets sends) in
     subst (λ ends. SpendsFirst s.settings h ends (o.sending.end.key, seq)) (sym cut.all) (packet_spent_first s.settings h cut.front o.sending.end cut.back (o.sending.end.key, seq) up.more front first)
 
-query_first : (s : Hubbing) (h : List Entry) (l : Living) (at : ℕ) (o : OutgoingState) (seq : ℕ) → AtTick s h l → AllByRecursion MayResend l.senders → slice_get l.senders at ≡ Some o
-    → ((i : ℕ) (p : OutgoingState) → i < at → slice_get l.senders i ≡ Some p → MayAsk p) → GivesQueryUp o.sending seq h → SpendsFirst s.settings h l.ends (o.sending.end.key, seq)
+query_first : (s : Hubbing) (h : List Entry) (l : Living) (at : ℕ) (o : TimedState) (seq : ℕ) → AtTick s h l → AllByRecursion MayResend l.senders → slice_get l.senders at ≡ Some o
+    → ((i : ℕ) (p : TimedState) → i < at → slice_get l.senders i ≡ Some p → MayAsk p) → GivesQueryUp o.sending seq h → SpendsFirst s.settings h l.ends (o.sending.end.key, seq)
 query_first s h l at o seq its packets here before up =
     let cut = cut_ends l at o its.living here in
     let front = before_cut (query_spent s.settings h) MayAsk l at o its.living cut (receives_no_query s.settings h) its.asker before in
@@ -158,13 +158,13 @@ data Refuses (s : Hubbing) (h : List Entry) (l : Living) (refusal : TickNo) : Ty
   Spends : (key : ConnKey) (seq : ℕ) → refusal ≡ no.Spent key seq s.settings.retries → SpendsFirst s.settings h l.ends (key, seq) → Refuses s h l refusal
   OutOfMemory : refusal ≡ no.Memory → Refuses s h l refusal
 
-refused_one : (s : Hubbing) (h : List Entry) (l : Living) (GivesUp : Sending → ℕ → List Entry → Type 0) (at : ℕ) (o : OutgoingState) (refusal : TickNo) → AtTick s h l → slice_get l.senders at ≡ Some o → SenderStands o h → RefusedFor GivesUp o refusal
+refused_one : (s : Hubbing) (h : List Entry) (l : Living) (GivesUp : Sending → ℕ → List Entry → Type 0) (at : ℕ) (o : TimedState) (refusal : TickNo) → AtTick s h l → slice_get l.senders at ≡ Some o → SenderStands o h → RefusedFor GivesUp o refusal
     → ((seq : ℕ) → GivesUp o.sending seq h → SpendsFirst s.settings h l.ends (o.sending.end.key, seq)) → Refuses s h l refusal
 refused_one s h l GivesUp at o refusal its here stands (Roomless is) first = OutOfMemory is
 refused_one s h l GivesUp at o refusal its here stands (GivenUp seq is up) first =
     Spends o.sending.end.key seq (is ∙ ap (λ (x : Settings). no.Spent o.sending.end.key seq x.retries) (its.settings at o here)) (first seq (up h stands))
 
-refused_in : (s : Hubbing) (h : List Entry) (l : Living) (refusal : TickNo) → AtTick s h l → ((i : ℕ) (o : OutgoingState) → slice_get l.senders i ≡ Some o → SenderStands o h) → RefusedIn l refusal → Refuses s h l refusal
+refused_in : (s : Hubbing) (h : List Entry) (l : Living) (refusal : TickNo) → AtTick s h l → ((i : ℕ) (o : TimedState) → slice_get l.senders i ≡ Some o → SenderStands o h) → RefusedIn l refusal → Refuses s h l refusal
 refused_in s h l refusal its stand (OfNone is) = OutOfMemory is
 refused_in s h l refusal its stand (OfPacket r) =
     refused_one s h l GivesPacketUp r.at r.first refusal its r.here (stand r.at r.first r.here) r.refused (λ seq up. packet_first s h l r.at r.first seq its r.here r.before up)

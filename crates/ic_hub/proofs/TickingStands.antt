@@ -8,15 +8,15 @@ use Rattle.ic_law.specs.declared.history.Entry.{Entry}
 use Rattle.ic_law.specs.Arriving.{IsServed}
 use Rattle.ic_law.specs.Emission.{clock_of, next_clock}
 use Rattle.ic_receiver.proofs.Others.{stands_silent}
-use Rattle.ic_outgoing.specs.Outgoing.{next_tick, ticking}
-use Rattle.ic_outgoing.specs.Standing.{Stands as SenderStands}
-use Rattle.ic_ends.specs.Entries.{IsTick}
-use Rattle.ic_ends.specs.Laws.{AboutTicks}
-use Rattle.ic_ends.proofs.Lives.{lives_on}
-use Rattle.ic_ends.proofs.Spent.{clock_moves}
-use Rattle.ic_ends.proofs.Ticked.{tick_passes}
-use Rattle.ic_ends.proofs.TickPoints.{tick_point}
-use Rattle.ic_ends.proofs.Served.{served_before}
+use Rattle.ic_timed_sender.specs.Timed.{next_tick, ticking}
+use Rattle.ic_timed_sender.specs.Standing.{Stands as SenderStands}
+use Rattle.ic_hub_laws.specs.Entries.{IsTick}
+use Rattle.ic_hub_laws.specs.Laws.{AboutTicks}
+use Rattle.ic_hub_laws.proofs.Lives.{lives_on}
+use Rattle.ic_hub_laws.proofs.Spent.{clock_moves}
+use Rattle.ic_hub_laws.proofs.Ticked.{tick_passes}
+use Rattle.ic_hub_laws.proofs.TickPoints.{tick_point}
+use Rattle.ic_hub_laws.proofs.Served.{served_before}
 use Rattle.ic_hub.specs.Hubbing.{Hubbing, Living, IsHub, place_in}
 use Rattle.ic_hub.specs.Entries.{tick_entry}
 use Rattle.ic_hub.specs.Standing.{LivingStands, Stands}

@@ -5,9 +5,9 @@ use Rattle.ic_base.specs.declared.keys.ConnEnd.{ConnEnd}
 use Rattle.ic_base.specs.declared.settings.Settings.{Settings}
 use Rattle.ic_law.specs.declared.history.Entry.{Entry}
 use Rattle.ic_law.specs.Packets.{IsSegment}
-use Rattle.ic_outgoing.specs.Outgoing.{OutgoingState, begun_at}
-use Rattle.ic_outgoing.specs.Standing.{StandsFirst}
-use Rattle.ic_places.specs.Ends.{motions_of}
+use Rattle.ic_timed_sender.specs.Timed.{TimedState, begun_at}
+use Rattle.ic_timed_sender.specs.Standing.{StandsFirst}
+use Rattle.ic_conntab.specs.Ends.{motions_of}
 use Rattle.ic_receiver.specs.Receiving.{Receiving, begun}
 use Rattle.ic_receiver.specs.Standing.{IsUntouched, Stands}
 use Rattle.ic_hub.specs.Hubbing.{Living}
@@ -30,7 +30,7 @@ ReceivesFirst settings end = end.sending ≡ false → (h : List Entry) → IsUn
 -- ---- connections
 
 -- the connection of an end that sends
-abbrev pub sender_begun : Settings → ℕ → ConnEnd → List OutgoingState
+abbrev pub sender_begun : Settings → ℕ → ConnEnd → List TimedState
 sender_begun settings tick end = if end.sending then begun_at end settings tick ∷ [] else []
 
 -- the connection of an end that receives

@@ -8,9 +8,9 @@ use Rattle.ic_law.specs.declared.history.HubNo.{HubNo}
 use Rattle.ic_law.specs.declared.history.HubNo.TheVariants as no
 use Rattle.ic_law.specs.declared.history.Arrived.{Arrived}
 use Rattle.ic_law.specs.declared.history.Arrived.TheVariants.{Handled, Dropped}
-use Rattle.ic_outgoing.specs.Outgoing.{OutgoingState, SameEnd}
-use Rattle.ic_outgoing.specs.Emitted.{AreOutgoing}
-use Rattle.ic_outgoing.specs.Standing.{StandsNext}
+use Rattle.ic_timed_sender.specs.Timed.{TimedState, SameEnd}
+use Rattle.ic_timed_sender.specs.Emitted.{AreOutgoing}
+use Rattle.ic_timed_sender.specs.Standing.{StandsNext}
 use Rattle.ic_receiver.specs.declared.take_no.TakeNo.{TakeNo}
 use Rattle.ic_receiver.specs.declared.take_no.TakeNo.TheVariants as take
 use Rattle.ic_sender.specs.declared.send_no.SendNo.{SendNo}
@@ -62,8 +62,8 @@ take_no take.Memory = no.Memory
 -- The sender at this place is another now, and stands for each history for which it stood, with such an entry more; its
 -- end, its settings and its tick are as before.
 pub record MovesSender (place : ℕ) (Is : ConnKey → Entry → Type 0) (l after : Living) : Type 0 where
-  pub old : OutgoingState
-  pub new : OutgoingState
+  pub old : TimedState
+  pub new : TimedState
   pub here : slice_get l.senders place ≡ Some old
   pub is : after ≡ record l { senders = slice_set l.senders place new }
   pub end : SameEnd old new
@@ -74,11 +74,11 @@ pub record MovesSender (place : ℕ) (Is : ConnKey → Entry → Type 0) (l afte
 
 -- a chunk of this length fits in a packet of each sender
 abbrev pub FitsAll : Living → ℕ → Type 0
-FitsAll l length = AllByRecursion (λ (o : OutgoingState). length + 68 ≤ o.sending.settings.packet) l.senders
+FitsAll l length = AllByRecursion (λ (o : TimedState). length + 68 ≤ o.sending.settings.packet) l.senders
 
 -- What a put on the sender at this place, or its finish, does: behind the end of stream nothing; else what the connection
 -- does, and where it refuses nothing. What it emits has the form of its packets.
 pub data PutsOn (place : ℕ) (Is : ConnKey → Result (List Datagram) SendNo → Entry → Type 0) (l after : Living) (result : Result (List Datagram) HubNo) : Type 0 where
-  Behind : (old : OutgoingState) → slice_get l.senders place ≡ Some old → old.sending.finished ≡ true → result ≡ Err no.Memory → after ≡ l → PutsOn place Is l after result
+  Behind : (old : TimedState) → slice_get l.senders place ≡ Some old → old.sending.finished ≡ true → result ≡ Err no.Memory → after ≡ l → PutsOn place Is l after result
   Answered : (answer : Result (List Datagram) SendNo) → result ≡ put_answer answer → (moves : MovesSender place (λ c e. Is c answer e) l after)
       → moves.old.sending.finished ≡ false → OnErr answer (moves.new ≡ moves.old) → IfOk answer (AreOutgoing moves.old.sending) → PutsOn place Is l after result

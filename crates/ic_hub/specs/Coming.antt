@@ -17,13 +17,13 @@ use Rattle.ic_law.specs.Packets.{key_of, is_rows, is_last, goes_forth, IsSegment
 use Rattle.ic_law.specs.Points.{IsDirected}
 use Rattle.ic_law.specs.Arriving.{turned_header}
 use Rattle.ic_conntab.specs.Table.{is_past}
-use Rattle.ic_places.specs.Ends.{keys_of}
-use Rattle.ic_places.specs.declared.slots.Sides.{Sides}
+use Rattle.ic_conntab.specs.Ends.{keys_of}
+use Rattle.ic_conntab.specs.declared.slots.Sides.{Sides}
 use Rattle.ic_sender.specs.declared.send_no.SendNo.TheVariants.{Stray}
 use Rattle.ic_sender.specs.Entries.{IsHearing as IsAnswered}
-use Rattle.ic_outgoing.specs.Outgoing.{OutgoingState, SameEnd}
-use Rattle.ic_outgoing.specs.Emitted.{AreOutgoing}
-use Rattle.ic_outgoing.specs.Standing.{StandsNext}
+use Rattle.ic_timed_sender.specs.Timed.{TimedState, SameEnd}
+use Rattle.ic_timed_sender.specs.Emitted.{AreOutgoing}
+use Rattle.ic_timed_sender.specs.Standing.{StandsNext}
 use Rattle.ic_receiver.specs.Receiving.{Receiving, Hears, HearsQuery}
 use Rattle.ic_receiver.specs.Entries.{IsHearing, IsQuerying}
 use Rattle.ic_receiver.specs.Standing.{StandsOn}
@@ -57,7 +57,7 @@ pub data HearsForth (head : Header) (body : List ℕ) (old new : Receiving) (res
   Forth : (a : Option Datagram) → result ≡ Ok (told_of a) → Asks head body old new a → HearsForth head body old new result
 
 -- what an answer makes of a sender
-pub data HearsBack (head : Header) (body : List ℕ) (old new : OutgoingState) (result : Became) : Type 0 where
+pub data HearsBack (head : Header) (body : List ℕ) (old new : TimedState) (result : Became) : Type 0 where
   BackWithout : (e : AllocError) → result ≡ Err e → new ≡ old → HearsBack head body old new result
   Strays : result ≡ Ok (Dropped cause.Stray, []) → new ≡ old → SameEnd old new → StandsNext old new (IsAnswered old.sending.end.key head.flags head.seq head.extra body (Err Stray)) → HearsBack head body old new result
   Back : (ds : List Datagram) → result ≡ Ok (Handled, ds) → SameEnd old new → new.now ≡ old.now → AreOutgoing old.sending ds
@@ -75,8 +75,8 @@ pub record ReceiverHears (place : ℕ) (head : Header) (body : List ℕ) (l afte
 
 -- so is the sender at this place
 pub record SenderHears (place : ℕ) (head : Header) (body : List ℕ) (l after : Living) (result : Became) : Type 0 where
-  pub old : OutgoingState
-  pub new : OutgoingState
+  pub old : TimedState
+  pub new : TimedState
   pub here : slice_get l.senders place ≡ Some old
   pub is : after ≡ record l { senders = slice_set l.senders place new }
   pub hears : HearsBack head body old new result

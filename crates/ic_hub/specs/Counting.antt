@@ -4,13 +4,13 @@ use Rattle.ic_base.specs.declared.keys.ConnKey.{ConnKey}
 use Rattle.ic_base.specs.declared.keys.ConnEnd.{ConnEnd}
 use Rattle.ic_base.specs.declared.settings.Settings.{Settings}
 use Rattle.ic_row.specs.declared.value.Value.{Value}
-use Rattle.ic_tally.specs.Counts.{greatest_count}
+use Rattle.ic_chunk.specs.Counts.{greatest_count}
 use Rattle.ic_law.specs.declared.history.Entry.{Entry}
 use Rattle.ic_law.specs.History.{rows_emitted_of, sent_upto, whole_of}
 use Rattle.ic_law.specs.Points.{IsHere}
 use Rattle.ic_law.specs.Streams.{AreSent, AreTaken}
-use Rattle.ic_outgoing.specs.Outgoing.{OutgoingState}
-use Rattle.ic_outgoing.specs.Standing.{Stands as SenderStands}
+use Rattle.ic_timed_sender.specs.Timed.{TimedState}
+use Rattle.ic_timed_sender.specs.Standing.{Stands as SenderStands}
 use Rattle.ic_receiver.specs.Receiving.{Receiving}
 use Rattle.ic_receiver.specs.Standing.{Stands as ReceiverStands}
 use Rattle.ic_hub.specs.declared.counts.Counts.{Counts}
@@ -54,7 +54,7 @@ TellsCounts sending c h None = HasSide sending c h → ⊥
 -- ---- what a hub counts
 
 -- what a sender counts, which is what each history says for which it stands
-pub record IsCountOfSender (o : OutgoingState) (n : Counts) : Type 0 where
+pub record IsCountOfSender (o : TimedState) (n : Counts) : Type 0 where
   pub rows : n.rows ≡ o.rows
   pub packets : n.packets ≡ o.sending.sent
   pub resent : n.resent ≡ o.sending.resent

@@ -3,9 +3,9 @@ use Rattle.std.specs.Prelude.{◌≡◌, ◌≢◌, ℕ, Bool, true, false, Opti
 use Rattle.ic_base.specs.declared.keys.ConnKey.{ConnKey}
 use Rattle.ic_base.specs.declared.keys.ConnEnd.{ConnEnd}
 use Rattle.ic_conntab.specs.Table.{is_past}
-use Rattle.ic_outgoing.specs.Outgoing.{OutgoingState}
-use Rattle.ic_places.specs.Ends.{sender_at, receiver_at, keys_of}
-use Rattle.ic_places.specs.declared.slots.Sides.{Sides}
+use Rattle.ic_timed_sender.specs.Timed.{TimedState}
+use Rattle.ic_conntab.specs.Ends.{sender_at, receiver_at, keys_of}
+use Rattle.ic_conntab.specs.declared.slots.Sides.{Sides}
 use Rattle.ic_receiver.specs.Receiving.{Receiving}
 use Rattle.ic_hub.specs.declared.finding.Found.{Found}
 use Rattle.ic_hub.specs.declared.finding.Found.TheVariants.{Foreign, Ended, NotBegun, Here}
@@ -32,7 +32,7 @@ HasNo sending s key = (i : ℕ) (l : Living) → slice_get s.live i ≡ Some l �
 -- the connection of this key's sending end, at this place among the senders of the query at this one
 pub record SenderIs (s : Hubbing) (key : ConnKey) (query place : ℕ) : Type 0 where
   pub living : Living
-  pub sender : OutgoingState
+  pub sender : TimedState
   pub live : slice_get s.live query ≡ Some living
   pub number : living.number ≡ key.query
   pub here : slice_get living.senders place ≡ Some sender

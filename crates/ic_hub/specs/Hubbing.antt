@@ -10,9 +10,9 @@ use Rattle.ic_conntab.specs.Table.{Table}
 use Rattle.ic_law.specs.Points.{Place, place_at}
 use Rattle.ic_law.specs.Asking.{AreEnds}
 use Rattle.ic_law.specs.Emission.{last_tick}
-use Rattle.ic_ends.specs.Entries.{IsOurs}
-use Rattle.ic_outgoing.specs.Outgoing.{OutgoingState}
-use Rattle.ic_places.specs.Ends.{sending_ends, receiving_ends, keys_of, motions_of}
+use Rattle.ic_hub_laws.specs.Entries.{IsOurs}
+use Rattle.ic_timed_sender.specs.Timed.{TimedState}
+use Rattle.ic_conntab.specs.Ends.{sending_ends, receiving_ends, keys_of, motions_of}
 use Rattle.ic_receiver.specs.Receiving.{Receiving}
 
 -- ---- what it is
@@ -22,7 +22,7 @@ pub record Living : Type 0 where
   pub number : ℕ
   pub ends : List ConnEnd
   -- of the sending ends, in their order
-  pub senders : List OutgoingState
+  pub senders : List TimedState
   -- of the receiving ends, in their order
   pub receivers : List Receiving
   -- for each motion that ends here, the sender that a take of any served last, if one did
@@ -53,7 +53,7 @@ place_in s = place_at s.session s.at s.settings
 
 -- each end of a query has its connection
 pub record IsLiving (l : Living) : Type 0 where
-  pub senders : map (λ (o : OutgoingState). o.sending.end) l.senders ≡ sending_ends l.ends
+  pub senders : map (λ (o : TimedState). o.sending.end) l.senders ≡ sending_ends l.ends
   pub receivers : map (λ (r : Receiving). r.end) l.receivers ≡ receiving_ends l.ends
   pub served : length l.served ≡ length (motions_of l.ends)
 
@@ -62,8 +62,8 @@ pub record IsOfHub (place : Place) (tick : ℕ) (l : Living) : Type 0 where
   pub living : IsLiving l
   pub ends : AreEnds place l.number l.ends
   pub ours : AllByRecursion (IsOurs place) l.ends
-  pub settings : AllByRecursion (λ (o : OutgoingState). o.sending.settings ≡ place.settings) l.senders
-  pub tick_is : AllByRecursion (λ (o : OutgoingState). o.now ≡ tick) l.senders
+  pub settings : AllByRecursion (λ (o : TimedState). o.sending.settings ≡ place.settings) l.senders
+  pub tick_is : AllByRecursion (λ (o : TimedState). o.now ≡ tick) l.senders
 
 -- the keys of a live query, if it is one
 abbrev pub keys_in : List Living → ℕ → Option (List ConnKey)

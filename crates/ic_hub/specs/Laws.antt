@@ -4,7 +4,7 @@ use Rattle.ic_law.specs.declared.history.Entry.{Entry}
 use Rattle.ic_law.specs.Arriving.{IsLiveQuery}
 use Rattle.ic_law.specs.Emission.{EmissionLaw, IsArmed}
 use Rattle.ic_law.specs.Hub.{HubLaw}
-use Rattle.ic_outgoing.specs.Outgoing.{OutgoingState}
+use Rattle.ic_timed_sender.specs.Timed.{TimedState}
 use Rattle.ic_sender.specs.Standing.{dues_held, query_at}
 use Rattle.ic_hub.specs.Hubbing.{Hubbing, Living, place_in}
 use Rattle.ic_hub.specs.Standing.{Stands}
@@ -16,7 +16,7 @@ KeepsLaw = (s : Hubbing) (h : List Entry) → Stands s h → HubLaw (place_in s)
 -- each sending connection of a live query
 abbrev pub StaysArmed : Type 0
 StaysArmed =
-    (s : Hubbing) (h : List Entry) → Stands s h → (q i : ℕ) (l : Living) (o : OutgoingState) → slice_get s.live q ≡ Some l → slice_get l.senders i ≡ Some o
+    (s : Hubbing) (h : List Entry) → Stands s h → (q i : ℕ) (l : Living) (o : TimedState) → slice_get s.live q ≡ Some l → slice_get l.senders i ≡ Some o
     → IsArmed o.sending.settings o.sending.end.key h (dues_held o.sending.conn o.held) (query_at o.sending.asked)
 
 -- a query is live in a hub where it is in the history

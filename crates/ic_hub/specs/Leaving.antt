@@ -6,8 +6,8 @@ use Rattle.ic_base.specs.declared.settings.Settings.{Settings}
 use Rattle.ic_law.specs.declared.history.Entry.{Entry}
 use Rattle.ic_law.specs.Points.{IsClear}
 use Rattle.ic_law.specs.Arriving.{AreClear, IsFirstUnclear}
-use Rattle.ic_places.specs.declared.slots.Slot.{Slot}
-use Rattle.ic_places.specs.Slots.{end_at}
+use Rattle.ic_conntab.specs.declared.slots.Slot.{Slot}
+use Rattle.ic_conntab.specs.Slots.{end_at}
 use Rattle.ic_hub.specs.Hubbing.{Living}
 use Rattle.ic_hub.specs.Standing.{LivingStands}
 

@@ -7,17 +7,17 @@ use Rattle.ic_law.specs.History.{left_of}
 use Rattle.ic_law.specs.Points.{IsLive}
 use Rattle.ic_law.specs.Arriving.{LastServed, IsGreatestLeft}
 use Rattle.ic_law.specs.Emission.{clock_of}
-use Rattle.ic_outgoing.specs.Outgoing.{OutgoingState}
-use Rattle.ic_outgoing.specs.Standing.{Stands as SenderStands}
-use Rattle.ic_places.specs.Ends.{motions_of}
+use Rattle.ic_timed_sender.specs.Timed.{TimedState}
+use Rattle.ic_timed_sender.specs.Standing.{Stands as SenderStands}
+use Rattle.ic_conntab.specs.Ends.{motions_of}
 use Rattle.ic_receiver.specs.Receiving.{Receiving}
 use Rattle.ic_receiver.specs.Standing.{Stands as ReceiverStands}
-use Rattle.ic_ends.specs.Laws.{Goes}
+use Rattle.ic_hub_laws.specs.Laws.{Goes}
 use Rattle.ic_hub.specs.Hubbing.{Hubbing, Living, place_in}
 
 -- each connection of a live query stands for the history, and the takes of any served these senders last
 pub record LivingStands (settings : Settings) (l : Living) (h : List Entry) : Type 0 where
-  pub senders : (i : ℕ) (o : OutgoingState) → slice_get l.senders i ≡ Some o → SenderStands o h
+  pub senders : (i : ℕ) (o : TimedState) → slice_get l.senders i ≡ Some o → SenderStands o h
   pub receivers : (i : ℕ) (r : Receiving) → slice_get l.receivers i ≡ Some r → ReceiverStands settings r h
   pub served : (i motion : ℕ) (last : Option ℤ) → slice_get (motions_of l.ends) i ≡ Some motion → slice_get l.served i ≡ Some last → LastServed l.number motion h last
 

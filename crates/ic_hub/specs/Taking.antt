@@ -11,7 +11,7 @@ use Rattle.ic_receiver.specs.Receiving.{Receiving, IsOver, IsEmpty, IsReady, Han
 use Rattle.ic_receiver.specs.Entries.{IsRefusing, IsHalting, list_of}
 use Rattle.ic_receiver.specs.Standing.{Stands, StandsOn, TakesNoMore, NotReady, TakesNow}
 use Rattle.ic_base.specs.declared.settings.Settings.{Settings}
-use Rattle.ic_places.specs.Ends.{receivers_of}
+use Rattle.ic_conntab.specs.Ends.{receivers_of}
 use Rattle.ic_hub.specs.declared.take.Ranked.{Ranked}
 use Rattle.ic_hub.specs.Hubbing.{Living}
 

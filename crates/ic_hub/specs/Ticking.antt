@@ -9,27 +9,27 @@ use Rattle.ic_sender.specs.declared.send_no.SendNo.{SendNo}
 use Rattle.ic_sender.specs.declared.send_no.SendNo.TheVariants as send
 use Rattle.ic_sender.specs.Sending.{Sending}
 use Rattle.ic_sender.specs.Entries.{IsTicking}
-use Rattle.ic_outgoing.specs.Outgoing.{OutgoingState, SameEnd, next_tick, numbers_due, first_spent, is_query_spent, datagrams_due, queries_due, ticking}
-use Rattle.ic_outgoing.specs.Emitted.{AreOutgoing}
-use Rattle.ic_outgoing.specs.Standing.{Stands as SenderStands, StandsNext, KeepsPackets, GivesPacketUp, KeepsQuery, GivesQueryUp}
+use Rattle.ic_timed_sender.specs.Timed.{TimedState, SameEnd, next_tick, numbers_due, first_spent, is_query_spent, datagrams_due, queries_due, ticking}
+use Rattle.ic_timed_sender.specs.Emitted.{AreOutgoing}
+use Rattle.ic_timed_sender.specs.Standing.{Stands as SenderStands, StandsNext, KeepsPackets, GivesPacketUp, KeepsQuery, GivesQueryUp}
 use Rattle.ic_hub.specs.Hubbing.{Hubbing, Living}
 
 -- ---- one connection
 
 -- none of its packets is given up at the next tick, nor in a history for which it stands; and those that are due are of it
-pub record MayResend (o : OutgoingState) : Type 0 where
+pub record MayResend (o : TimedState) : Type 0 where
   pub unspent : first_spent o ≡ None
   pub tells : (h : List Entry) → SenderStands o h → KeepsPackets o.sending h
   pub formed : AreOutgoing o.sending (datagrams_due o)
 
 -- nor is its status query, and one that is due is of it
-pub record MayAsk (o : OutgoingState) : Type 0 where
+pub record MayAsk (o : TimedState) : Type 0 where
   pub answered : is_query_spent o ≡ false
   pub tells : (h : List Entry) → SenderStands o h → KeepsQuery o.sending h
   pub formed : AreOutgoing o.sending (queries_due o)
 
 -- a tick is refused for it, which is given up in each history for which it stands; or there is no memory
-pub data RefusedFor (GivesUp : Sending → ℕ → List Entry → Type 0) (o : OutgoingState) (refusal : TickNo) : Type 0 where
+pub data RefusedFor (GivesUp : Sending → ℕ → List Entry → Type 0) (o : TimedState) (refusal : TickNo) : Type 0 where
   GivenUp : (seq : ℕ) → refusal ≡ no.Spent o.sending.end.key seq o.sending.settings.retries → ((h : List Entry) → SenderStands o h → GivesUp o.sending seq h) → RefusedFor GivesUp o refusal
   Roomless : refusal ≡ no.Memory → RefusedFor GivesUp o refusal
 
@@ -43,7 +43,7 @@ tick_no send.Stray = no.Memory
 tick_no send.Memory = no.Memory
 
 -- once a tick is over, it is the same end, and stands for each history with that tick, where the tick emits what was due of it
-pub record Passes (o : OutgoingState) : Type 0 where
+pub record Passes (o : TimedState) : Type 0 where
   pub end : SameEnd o (ticking o)
   pub stands : StandsNext o (ticking o) (IsTicking o.sending.end.key (datagrams_due o ++ queries_due o))
 

@@ -17,8 +17,8 @@ use crate::take::listed;
 use ic_base::{Bytes, ConnKey, Datagram, Datagrams, SegId};
 use ic_header::{Flags, Header, read, write};
 use ic_law::{Arrived, DropCause};
-use ic_outgoing::Outgoing;
-use ic_places::Sides;
+use ic_timed_sender::TimedSender;
+use ic_conntab::Sides;
 use ic_receiver::Receiver;
 use ic_sender::SendNo;
 use std::alloc::{AllocError, Global};
@@ -181,7 +181,7 @@ fn hear_forth(
 /// An answer came for a sender.
 fn hear_back(
     alloc: Global,
-    sender: &mut Outgoing,
+    sender: &mut TimedSender,
     head: &Header,
     body: &[u8],
 ) -> Result<(Arrived, Datagrams), AllocError>

@@ -14,8 +14,8 @@ ghost use Rattle.ic_hub.specs.Beginning.{IsBetween, SendsFirst, ReceivesFirst, s
 use crate::hub::Hub;
 use crate::query::Query;
 use ic_base::{BeginNo, ConnEnd, SegId, Settings};
-use ic_outgoing::Outgoing;
-use ic_places::Places;
+use ic_timed_sender::TimedSender;
+use ic_conntab::Places;
 use ic_receiver::Receiver;
 use std::alloc::{AllocError, Global};
 
@@ -30,7 +30,7 @@ fn named(end: &ConnEnd)
 /// The connection of an end is put behind others, where it sends.
 fn add_sender(
     alloc: Global,
-    senders: &mut Vec<Outgoing>,
+    senders: &mut Vec<TimedSender>,
     end: &ConnEnd,
     settings: &Settings,
     tick: u64,
@@ -45,7 +45,7 @@ fn add_sender(
     if !end.sending {
         return Ok(());
     }
-    let sender = Outgoing::new(alloc, *end, settings, tick)?;
+    let sender = TimedSender::new(alloc, *end, settings, tick)?;
     senders.push(sender)?;
     Ok(())
 }
@@ -75,7 +75,7 @@ fn senders(
     ends: &[ConnEnd],
     settings: &Settings,
     tick: u64,
-) -> Result<Vec<Outgoing>, AllocError>
+) -> Result<Vec<TimedSender>, AllocError>
     requires checked { AreChecked settings.now }
     requires last { tick ≤ last_tick }
     ensures begun { IfOk result (λ v. v.items ≡ flat_map (sender_begun settings.now tick) ends.now) }

@@ -1,7 +1,7 @@
 // What was put, emitted and taken, in numbers.
 ghost use Rattle.std.specs.Prelude.{◌≡◌, ◌<◌, true, false, Some, List, length, slice_get};
 ghost use Rattle.ic_law.specs.declared.history.Entry.{Entry};
-ghost use Rattle.ic_outgoing.specs.Outgoing.{OutgoingState};
+ghost use Rattle.ic_timed_sender.specs.Timed.{TimedState};
 ghost use Rattle.ic_receiver.specs.Receiving.{Receiving};
 ghost use Rattle.ic_hub.specs.Counting.{IsCountOfSender, IsCountOfReceiver, CountsFound, TellsCounts};
 ghost use Rattle.ic_hub.specs.Standing.{Stands};
@@ -10,11 +10,11 @@ use crate::counts::Counts;
 use crate::hub::Hub;
 use crate::query::Query;
 use ic_base::ConnKey;
-use ic_outgoing::Outgoing;
+use ic_timed_sender::TimedSender;
 use ic_receiver::Receiver;
 
 /// What a sender counts.
-fn of_sender(sender: &Outgoing) -> Counts
+fn of_sender(sender: &TimedSender) -> Counts
     ensures { IsCountOfSender sender.now result }
 {
     Counts {
@@ -41,7 +41,7 @@ impl Query {
     /// What the sender at this place counts.
     fn sent(&self, place: usize) -> Counts
         requires here { place < length self.now.senders }
-        ensures { (sender : OutgoingState) → slice_get self.now.senders place ≡ Some sender → IsCountOfSender sender result }
+        ensures { (sender : TimedState) → slice_get self.now.senders place ≡ Some sender → IsCountOfSender sender result }
     {
         of_sender(&self.senders[place])
     }

@@ -6,7 +6,7 @@ ghost use Rattle.ic_hub.specs.Finding.{IsFound, FindsSender, FindsReceiver};
 use crate::hub::Hub;
 use ic_base::ConnKey;
 use ic_conntab::Find;
-use ic_places::Sides;
+use ic_conntab::Sides;
 
 /// What a hub says of a connection.
 #[derive(Clone, Copy)]

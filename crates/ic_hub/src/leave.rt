@@ -1,7 +1,7 @@
 // Queries that end.
 ghost use Rattle.std.specs.Prelude.{◌≡◌, ◌++◌, [], ◌∷◌, List, OnErr};
 ghost use Rattle.ic_law.specs.declared.history.Entry.{Entry};
-ghost use Rattle.ic_places.specs.Slots.{IsWithin};
+ghost use Rattle.ic_conntab.specs.Slots.{IsWithin};
 ghost use Rattle.ic_hub.specs.Entries.{clear_entry, leave_entry};
 ghost use Rattle.ic_hub.specs.Leaving.{TellsClear, TellsUnclear};
 ghost use Rattle.ic_hub.specs.Standing.{Stands};
@@ -11,7 +11,7 @@ use crate::hub::Hub;
 use crate::query::Query;
 use ic_base::ConnKey;
 use ic_law::{LeaveNo, Unclear};
-use ic_places::Slot;
+use ic_conntab::Slot;
 
 impl Query {
     /// Whether the connection of an end is over.

@@ -7,8 +7,8 @@
 //! on a late packet of it is answered Stop, and its number never begins again. `dropped` and `counts` look.
 //!
 //! Read first: `specs/Standing.antt`, which histories a hub stands for; then `specs/Hubbing.antt`, what it is. Below:
-//! `ic_conntab`, which finds a query's connections, `ic_places`, which says where they stand, `ic_outgoing` and
-//! `ic_receiver`, which are they, and `ic_ends`, why what each of them keeps is the law of the hub.
+//! `ic_conntab`, which finds a query's connections, `ic_conntab`, which says where they stand, `ic_timed_sender` and
+//! `ic_receiver`, which are they, and `ic_hub_laws`, why what each of them keeps is the law of the hub.
 #![tactic(auto)]
 
 mod arrive;

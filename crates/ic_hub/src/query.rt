@@ -1,7 +1,7 @@
 // The connections of one live query.
 use ic_base::SegId;
-use ic_outgoing::Outgoing;
-use ic_places::Places;
+use ic_timed_sender::TimedSender;
+use ic_conntab::Places;
 use ic_receiver::Receiver;
 use std::marker::Model;
 
@@ -12,7 +12,7 @@ pub(crate) struct Query {
     /// Its ends, and where their connections stand below.
     pub(crate) places: Places,
     /// The connections of the sending ends, in their order.
-    pub(crate) senders: Vec<Outgoing>,
+    pub(crate) senders: Vec<TimedSender>,
     /// The connections of the receiving ends, in their order.
     pub(crate) receivers: Vec<Receiver>,
     /// For each motion that ends here, the sender that a take of any served last.

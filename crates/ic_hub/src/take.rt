@@ -1,7 +1,7 @@
 // Parcels that the slice takes, and connections that it halts.
 ghost use Rattle.std.specs.Prelude.{◌≡◌, ◌<◌, ◌++◌, [], ◌∷◌, ℕ, Some, All, length, slice_get, vec_len, vec_capacity, List, OnErr};
 ghost use Rattle.ic_law.specs.declared.history.Entry.{Entry};
-ghost use Rattle.ic_places.specs.Ends.{motions_of};
+ghost use Rattle.ic_conntab.specs.Ends.{motions_of};
 ghost use Rattle.ic_receiver.specs.Entries.{list_of};
 ghost use Rattle.ic_hub.specs.Entries.{take_entry, take_from_entry, halt_entry};
 ghost use Rattle.ic_hub.specs.Standing.{Stands};

@@ -2,8 +2,8 @@
 ghost use Rattle.std.specs.Prelude.{◌≡◌, ◌++◌, [], ◌∷◌, List, map, IfOk, IfErr, OnOk, OnErr};
 ghost use Rattle.std.specs.List.{AllByRecursion, flat_map};
 ghost use Rattle.ic_law.specs.declared.history.Entry.{Entry};
-ghost use Rattle.ic_outgoing.specs.Outgoing.{next_tick, numbers_due, datagrams_due, queries_due, ticking};
-ghost use Rattle.ic_outgoing.specs.Standing.{GivesPacketUp, GivesQueryUp};
+ghost use Rattle.ic_timed_sender.specs.Timed.{next_tick, numbers_due, datagrams_due, queries_due, ticking};
+ghost use Rattle.ic_timed_sender.specs.Standing.{GivesPacketUp, GivesQueryUp};
 ghost use Rattle.ic_hub.specs.Entries.{tick_entry};
 ghost use Rattle.ic_hub.specs.Standing.{Stands};
 ghost use Rattle.ic_hub.specs.Calls.{SamePlace};
@@ -13,7 +13,7 @@ use crate::hub::Hub;
 use crate::query::Query;
 use ic_base::Datagrams;
 use ic_law::TickNo;
-use ic_outgoing::{Numbers, Outgoing};
+use ic_timed_sender::{Numbers, TimedSender};
 use ic_sender::SendNo;
 use std::alloc::{AllocError, Global};
 
@@ -51,7 +51,7 @@ fn append(datagrams: &mut Datagrams, more: Datagrams) -> Result<(), AllocError>
 }
 
 /// What is due of one connection: the numbers of its packets. Their datagrams are put behind others.
-fn due_of(alloc: Global, sender: &Outgoing, datagrams: &mut Datagrams) -> Result<Numbers, TickNo>
+fn due_of(alloc: Global, sender: &TimedSender, datagrams: &mut Datagrams) -> Result<Numbers, TickNo>
     ensures numbers { IfOk result (λ numbers. numbers ≡ numbers_due sender.now) }
     ensures datagrams { OnOk result (datagrams.new ≡ datagrams.old ++ datagrams_due sender.now) }
     ensures may { OnOk result (MayResend sender.now) }
@@ -68,7 +68,7 @@ fn due_of(alloc: Global, sender: &Outgoing, datagrams: &mut Datagrams) -> Result
 }
 
 /// The status query of one connection, where it is due, is put behind other datagrams.
-fn query_of(alloc: Global, sender: &Outgoing, datagrams: &mut Datagrams) -> Result<(), TickNo>
+fn query_of(alloc: Global, sender: &TimedSender, datagrams: &mut Datagrams) -> Result<(), TickNo>
     ensures datagrams { OnOk result (datagrams.new ≡ datagrams.old ++ queries_due sender.now) }
     ensures may { OnOk result (MayAsk sender.now) }
     ensures err { IfErr result (RefusedFor GivesQueryUp sender.now) }
@@ -86,7 +86,7 @@ fn query_of(alloc: Global, sender: &Outgoing, datagrams: &mut Datagrams) -> Resu
 /// What is due of each of these connections: the numbers of its packets. Their datagrams are put behind others.
 fn dues(
     alloc: Global,
-    senders: &[Outgoing],
+    senders: &[TimedSender],
     datagrams: &mut Datagrams,
 ) -> Result<Vec<Numbers>, TickNo>
     ensures numbers { IfOk result (λ v. v.items ≡ map numbers_due senders.now) }
@@ -105,7 +105,7 @@ fn dues(
 }
 
 /// The status queries that are due of these connections are put behind other datagrams.
-fn queries(alloc: Global, senders: &[Outgoing], datagrams: &mut Datagrams) -> Result<(), TickNo>
+fn queries(alloc: Global, senders: &[TimedSender], datagrams: &mut Datagrams) -> Result<(), TickNo>
     ensures datagrams { OnOk result (datagrams.new ≡ datagrams.old ++ flat_map queries_due senders.now) }
     ensures may { OnOk result (AllByRecursion MayAsk senders.now) }
     ensures err { IfErr result (RefusedFirst MayAsk (RefusedFor GivesQueryUp) senders.now) }
@@ -117,7 +117,7 @@ fn queries(alloc: Global, senders: &[Outgoing], datagrams: &mut Datagrams) -> Re
 }
 
 /// The tick is over for these connections: what was due of them was emitted.
-fn pass(senders: &mut [Outgoing], numbers: &[Numbers])
+fn pass(senders: &mut [TimedSender], numbers: &[Numbers])
     requires plan { numbers.now ≡ map numbers_due senders.old }
     requires packets { AllByRecursion MayResend senders.old }
     requires queries { AllByRecursion MayAsk senders.old }

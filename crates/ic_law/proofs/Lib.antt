@@ -5,3 +5,4 @@ pub mod Following
 pub mod Making
 pub mod Timings
 pub mod Packing
+pub mod LogLemmas

@@ -10,3 +10,5 @@ pub mod Arriving
 pub mod Emission
 pub mod Hub
 pub mod Streams
+pub mod Logs
+pub mod LogLaws

@@ -5,17 +5,22 @@
 //! above all: where the network gives only what was emitted, and each hub keeps its law, the rows taken on a
 //! connection are a prefix of the rows sent.
 //!
+//! A worker over a port speaks of its own calls with their replies alone: `specs/Logs.antt` reads that log from the
+//! history of the worker's hub.
+//!
 //! Below: `ic_base`, `ic_row`, `ic_header`, `ic_chunk`. Above: the ends of connections, and the hub.
 #![tactic(auto)]
 
 mod history;
 mod laws;
+mod log_laws;
 
 pub use history::{
     Arrived, DropCause, Entry, Histories, History, HubAsk, HubNo, HubReply, LeaveNo, TickNo,
     Unclear,
 };
 pub use laws::streams_follow;
+pub use log_laws::{log_grows, none_yet, others_pass};
 
 #[cfg(test)]
 mod tests;

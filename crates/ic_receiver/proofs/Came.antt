@@ -8,7 +8,7 @@ use Rattle.ic_base.specs.declared.settings.Settings.{Settings}
 use Rattle.ic_base.specs.declared.datagram.Datagram.{Datagram}
 use Rattle.ic_base.specs.Keys.{key_eq}
 use Rattle.ic_header.specs.declared.flags.Flags.TheVariants.{Query, Ack, Stop, Disorder, Duplicate}
-use Rattle.ic_tally.specs.Counts.{HasCounted}
+use Rattle.ic_chunk.specs.Counts.{HasCounted}
 use Rattle.ic_recvring.specs.Numbers as ring
 use Rattle.ic_recvring.specs.Ring.{Ring, Packet, numbers, stored_of, IsRepeated, IsBeyond, HasRoom}
 use Rattle.ic_recvring.proofs.Among.{Contains-head, numbers_bound}

@@ -8,8 +8,8 @@ use Rattle.ic_base.specs.declared.datagram.Datagram.{Datagram}
 use Rattle.ic_base.specs.declared.datagram.Parcel.{Parcel}
 use Rattle.ic_base.proofs.SameKeys.{key_eq-same}
 use Rattle.ic_base.specs.Keys.{key_eq}
-use Rattle.ic_tally.specs.Counts.{HasCounted}
-use Rattle.ic_tally.proofs.Ended.{counted_none}
+use Rattle.ic_chunk.specs.Counts.{HasCounted}
+use Rattle.ic_chunk.proofs.Ended.{counted_none}
 use Rattle.ic_recvring.specs.Ring.{Ring, empty}
 use Rattle.ic_header.specs.declared.flags.Flags.TheVariants.{Ack, Stop, Disorder, Duplicate}
 use Rattle.ic_law.specs.declared.history.HubAsk.{HubAsk}

@@ -12,8 +12,8 @@ use Rattle.ic_base.specs.declared.datagram.Parcel.{Parcel}
 use Rattle.ic_base.specs.Keys.{key_eq}
 use Rattle.ic_base.proofs.SameKeys.{key_eq-same}
 use Rattle.ic_header.specs.declared.flags.Flags.TheVariants.{Ack}
-use Rattle.ic_tally.specs.Counts.{HasCounted}
-use Rattle.ic_tally.proofs.Ended.{tells}
+use Rattle.ic_chunk.specs.Counts.{HasCounted}
+use Rattle.ic_chunk.proofs.Ended.{tells}
 use Rattle.ic_recvring.specs.Numbers as ring
 use Rattle.ic_recvring.specs.Ring.{Ring, Packet, numbers, stored_of, after_front}
 use Rattle.ic_recvring.proofs.Among.{Contains-tail, Contains-head, head_or_tail, numbers_bound}

@@ -9,7 +9,7 @@ use Rattle.ic_header.specs.declared.flags.Flags.TheVariants.{Ack, Stop, Disorder
 use Rattle.ic_header.specs.Spelling.{Heads}
 use Rattle.ic_recvring.specs.Numbers.{IsRunEnd, IsGreatest, missing}
 use Rattle.ic_recvring.specs.Ring.{Ring, Packet, stored_of, empty, placed, front_of, after_front, IsRepeated, IsNew, IsBeyond, HasRoom}
-use Rattle.ic_tally.specs.Counts.{HasCounted}
+use Rattle.ic_chunk.specs.Counts.{HasCounted}
 use Rattle.ic_law.specs.Packets.{header_for, answer_datagram}
 use Rattle.ic_law.specs.Receiving.{listing}
 

@@ -5,7 +5,7 @@ use Rattle.ic_base.specs.declared.settings.Settings.{Settings}
 use Rattle.ic_base.specs.declared.datagram.Datagram.{Datagram}
 use Rattle.ic_base.specs.declared.datagram.Parcel.{Parcel}
 use Rattle.ic_row.specs.declared.value.Value.{Value}
-use Rattle.ic_tally.specs.Counts.{HasCounted, greatest_count}
+use Rattle.ic_chunk.specs.Counts.{HasCounted, greatest_count}
 use Rattle.ic_recvring.specs.Ring.{Ring, Packet, stored_of}
 use Rattle.ic_law.specs.declared.history.Entry.{Entry}
 use Rattle.ic_law.specs.Packets.{RowPacket}

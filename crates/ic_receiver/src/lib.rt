@@ -9,7 +9,7 @@
 //! receiver answers is lost or not, and the sender asks again.
 //!
 //! Read first: `specs/Receiving.antt`, what each call does; then `specs/Standing.antt`, what a connection has to do with
-//! the history of its hub. Below: `ic_recvring`, which keeps the packets, `ic_tally`, which counts rows, and `ic_law`,
+//! the history of its hub. Below: `ic_recvring`, which keeps the packets, `ic_chunk`, which counts rows, and `ic_law`,
 //! the law of histories. Above: the hub.
 #![tactic(auto)]
 

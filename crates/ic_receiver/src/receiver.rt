@@ -16,7 +16,7 @@ use crate::take_no::TakeNo;
 use ic_base::{ConnEnd, Datagram, Parcel, SegId, Settings};
 use ic_header::Flags;
 use ic_recvring::RecvRing;
-use ic_tally::count_more;
+use ic_chunk::count_more;
 use std::alloc::{AllocError, Global};
 use std::marker::Model;
 

@@ -10,7 +10,7 @@
 //!
 //! Read first: `specs/Sending.antt`, what each event makes of a connection; `specs/Calls.antt`, what each call answers;
 //! then `specs/Standing.antt`, what a connection has to do with the history of its hub. Below: `ic_sendring`, `ic_window`,
-//! `ic_expire` and `ic_law`. Above: `ic_outgoing`, which keeps a queue and the tick beside it, and the hub.
+//! `ic_expire` and `ic_law`. Above: `ic_timed_sender`, which keeps a queue and the tick beside it, and the hub.
 #![tactic(auto)]
 
 mod answers;

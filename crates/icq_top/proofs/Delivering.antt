@@ -14,7 +14,7 @@ use Rattle.pl_tree.specs.declared.schema.Placing.TheVariants.{Keyed, Dealt, Ever
 use Rattle.pl_tree.specs.Trees.{tree_in}
 use Rattle.pl_read.specs.declared.table.Table.{Table}
 use Rattle.pl_read.specs.declared.document.Document.{Document}
-use Rattle.pl_rows.specs.Placed.{rows_at}
+use Rattle.pl_ops.specs.Placed.{rows_at}
 use Rattle.tb_load.specs.Kept.{loaded_of}
 use Rattle.tb_load.specs.Standing.{over_all, IsWhole}
 use Rattle.tb_load.proofs.Looking.{came_from}

@@ -14,8 +14,8 @@ use Rattle.pl_plan.specs.Tests.{is_missing}
 use Rattle.pl_plan.specs.Rules.{Given, rule_number}
 use Rattle.pl_read.specs.declared.table.Table.{Table}
 use Rattle.pl_read.specs.declared.document.Document.{Document}
-use Rattle.pl_rows.specs.declared.loaded.Spread.{Spread}
-use Rattle.pl_rows.specs.Fitting.{Fits}
+use Rattle.pl_ops.specs.declared.loaded.Spread.{Spread}
+use Rattle.pl_ops.specs.Fitting.{Fits}
 use Rattle.tb_load.specs.Kept.{loaded_of, schemas_of}
 use Rattle.gd_sim.specs.declared.feed.Feed.{Feed}
 use Rattle.gd_sim.specs.declared.run.FirstRun.{FirstRun}

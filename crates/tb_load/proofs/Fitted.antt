@@ -11,8 +11,8 @@ use Rattle.pl_tree.specs.declared.schema.Schema.{Schema}
 use Rattle.pl_read.specs.declared.table.Table.{Table}
 use Rattle.pl_read.specs.declared.document.Document.{Document}
 use Rattle.pl_read.specs.Limits.{IsOf, FitsColumns, HasKinds, IsDocument, HasShortTexts}
-use Rattle.pl_rows.specs.Rows.{Line}
-use Rattle.pl_rows.specs.Fitting.{stands_at, IsOfKind, IsRowOf, HasTable, Fits}
+use Rattle.pl_ops.specs.Rows.{Line}
+use Rattle.pl_ops.specs.Fitting.{stands_at, IsOfKind, IsRowOf, HasTable, Fits}
 use Rattle.tb_load.specs.Kept.{spread_of, loaded_of, schemas_of}
 use Rattle.tb_load.specs.Laws.{FittingRows}
 use Rattle.tb_load.proofs.Choosing.{chosen-all}

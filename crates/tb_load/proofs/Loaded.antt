@@ -9,9 +9,9 @@ use Rattle.pl_tree.specs.declared.schema.Placing.{Placing}
 use Rattle.pl_tree.specs.declared.schema.Placing.TheVariants.{Keyed, Dealt, Everywhere}
 use Rattle.pl_read.specs.declared.table.Table.{Table}
 use Rattle.pl_read.specs.declared.document.Document.{Document}
-use Rattle.pl_rows.specs.Rows.{Line}
-use Rattle.pl_rows.specs.Placed.{rows_at, in_table, or_none, spread_at}
-use Rattle.pl_rows.specs.Fitting.{placed_at}
+use Rattle.pl_ops.specs.Rows.{Line}
+use Rattle.pl_ops.specs.Placed.{rows_at, in_table, or_none, spread_at}
+use Rattle.pl_ops.specs.Fitting.{placed_at}
 use Rattle.tb_load.specs.Kept.{parts_of, kept_by, spread_of, loaded_of}
 use Rattle.tb_load.specs.Standing.{StandWherePlaced, StandOnce, IsWhole, StandByKey, IsByKey, StandNowhereElse, IsNotPast}
 use Rattle.tb_load.specs.Laws.{PlacedOnce}

@@ -4,9 +4,9 @@ use Rattle.std.proofs.lemmas.List.FromFn.{length-map-range_with_len}
 use Rattle.ic_row.specs.Hash.{segment_for}
 use Rattle.pl_tree.specs.declared.schema.Placing.{Placing}
 use Rattle.pl_tree.specs.declared.schema.Placing.TheVariants.{Keyed, Dealt, Everywhere}
-use Rattle.pl_rows.specs.declared.loaded.Spread.TheVariants as spread
-use Rattle.pl_rows.specs.Rows.{Line}
-use Rattle.pl_rows.specs.Fitting.{placed_at}
+use Rattle.pl_ops.specs.declared.loaded.Spread.TheVariants as spread
+use Rattle.pl_ops.specs.Rows.{Line}
+use Rattle.pl_ops.specs.Fitting.{placed_at}
 use Rattle.tb_load.specs.Kept.{parts_of, kept_by}
 use Rattle.tb_load.proofs.Parts.{parts_of_one_more, parts_of_none}
 

@@ -6,10 +6,10 @@ use Rattle.pl_tree.specs.declared.schema.Placing.{Placing}
 use Rattle.pl_tree.specs.declared.schema.Placing.TheVariants.{Keyed, Dealt, Everywhere}
 use Rattle.pl_read.specs.declared.table.Table.{Table}
 use Rattle.pl_read.specs.declared.document.Document.{Document}
-use Rattle.pl_rows.specs.declared.loaded.Spread.{Spread}
-use Rattle.pl_rows.specs.declared.loaded.Spread.TheVariants as spread
-use Rattle.pl_rows.specs.Rows.{Line}
-use Rattle.pl_rows.specs.Fitting.{placed_at}
+use Rattle.pl_ops.specs.declared.loaded.Spread.{Spread}
+use Rattle.pl_ops.specs.declared.loaded.Spread.TheVariants as spread
+use Rattle.pl_ops.specs.Rows.{Line}
+use Rattle.pl_ops.specs.Fitting.{placed_at}
 
 -- the rows at each of so many segments
 unfoldable pub parts_of : Placing → ℕ → List Line → List (List Line)

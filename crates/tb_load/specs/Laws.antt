@@ -3,10 +3,10 @@ use Rattle.std.specs.Prelude.{◌≡◌, ℕ, ◌<◌, pos, List, slice_get, Som
 use Rattle.std.specs.List.{AllByRecursion, range_with_len, flat_map}
 use Rattle.pl_tree.specs.declared.schema.Schema.{Schema}
 use Rattle.pl_tree.specs.declared.schema.Placing.{Placing}
-use Rattle.pl_rows.specs.declared.loaded.Spread.{Spread}
-use Rattle.pl_rows.specs.Rows.{Line}
-use Rattle.pl_rows.specs.Placed.{rows_at}
-use Rattle.pl_rows.specs.Fitting.{placed_at, IsRowOf, Fits}
+use Rattle.pl_ops.specs.declared.loaded.Spread.{Spread}
+use Rattle.pl_ops.specs.Rows.{Line}
+use Rattle.pl_ops.specs.Placed.{rows_at}
+use Rattle.pl_ops.specs.Fitting.{placed_at, IsRowOf, Fits}
 use Rattle.tb_load.specs.Standing.{IsApart}
 
 -- the rows at each segment have their columns' kinds

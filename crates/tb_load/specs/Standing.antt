@@ -6,10 +6,10 @@ use Rattle.pl_tree.specs.declared.schema.Placing.{Placing}
 use Rattle.pl_tree.specs.declared.schema.Placing.TheVariants.{Keyed, Dealt, Everywhere}
 use Rattle.pl_read.specs.declared.table.Table.{Table}
 use Rattle.pl_read.specs.declared.document.Document.{Document}
-use Rattle.pl_rows.specs.declared.loaded.Spread.{Spread}
-use Rattle.pl_rows.specs.Rows.{Line}
-use Rattle.pl_rows.specs.Placed.{rows_at}
-use Rattle.pl_rows.specs.Fitting.{placed_at}
+use Rattle.pl_ops.specs.declared.loaded.Spread.{Spread}
+use Rattle.pl_ops.specs.Rows.{Line}
+use Rattle.pl_ops.specs.Placed.{rows_at}
+use Rattle.pl_ops.specs.Fitting.{placed_at}
 
 -- of the document's table with this number, from 0
 abbrev pub OfEachTable : Document → (ℕ → Table → Type 0) → Type 0

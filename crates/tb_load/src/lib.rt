@@ -4,7 +4,7 @@
 //! A program calls [`load`] once, after `read_document`, and hands the result down to whatever scans tables; that asks
 //! `Loaded::rows` of a table and a segment.
 //!
-//! Below: `pl_read` for documents, `pl_rows` for rows by segment, `ic_row` for the segment of a key. Above: whoever runs
+//! Below: `pl_read` for documents, `pl_ops` for rows by segment, `ic_row` for the segment of a key. Above: whoever runs
 //! queries.
 #![tactic(auto)]
 

@@ -1,6 +1,6 @@
 // A whole document.
 ghost use Rattle.std.specs.Prelude.{◌≡◌, map, length, IfOk};
-ghost use Rattle.pl_rows.specs.Fitting.{Fits};
+ghost use Rattle.pl_ops.specs.Fitting.{Fits};
 ghost use Rattle.pl_read.specs.Limits.{IsDocument, HasShortTexts};
 ghost use Rattle.tb_load.specs.Kept.{spread_of, loaded_of, schemas_of};
 ghost use Rattle.tb_load.specs.Standing.{StandWherePlaced, StandOnce, StandByKey, StandNowhereElse};
@@ -8,7 +8,7 @@ ghost use Rattle.tb_load.specs.Standing.{StandWherePlaced, StandOnce, StandByKey
 use crate::apart::{by_key, in_turn};
 use ic_row::{Row, Rows};
 use pl_read::{Document, Table};
-use pl_rows::{Loaded, Spread};
+use pl_ops::{Loaded, Spread};
 use pl_tree::Placing;
 use sqlite_items::Items;
 use std::alloc::{AllocError, Global};

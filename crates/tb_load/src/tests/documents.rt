@@ -3,7 +3,7 @@ use crate::load;
 use ic_base::SegId;
 use ic_row::{Row, Value};
 use pl_read::read_document;
-use pl_rows::Loaded;
+use pl_ops::Loaded;
 use std::alloc::Global;
 use std::test::*;
 

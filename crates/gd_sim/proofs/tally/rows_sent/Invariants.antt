@@ -1,6 +1,6 @@
 use Rattle.std.proofs.Common.{◌≤◌, ◌*◌, take}
 use Rattle.ic_law.specs.History.{chunks_put_of}
-use Rattle.ic_tally.specs.Counts.{HaveEnded}
+use Rattle.ic_chunk.specs.Counts.{HaveEnded}
 use Rattle.gd_sim.proofs.tally.rows_sent.Given as goal
 
 abbrev pub invariant-loop-entry : goal.invariant-loop-entry

@@ -1,8 +1,8 @@
 use Rattle.std.proofs.Common.{◌-◌, length, false, ap, ◌∙◌, subst, refl}
 use Rattle.ic_law.specs.History.{chunks_put_of, payloads_of, rows_emitted_of, sent_upto, whole_of}
 use Rattle.ic_law.specs.Streams.{history_of}
-use Rattle.ic_tally.specs.Counts.{HaveEnded}
-use Rattle.ic_tally.proofs.Ended.{counts_rows}
+use Rattle.ic_chunk.specs.Counts.{HaveEnded}
+use Rattle.ic_chunk.proofs.Ended.{counts_rows}
 use Rattle.gd_sim.proofs.tally.tally_of.Goals as goal
 
 pub returns : goal.returns

@@ -1,6 +1,6 @@
 use Rattle.std.proofs.Common.{sym, subst}
-use Rattle.ic_outgoing.specs.declared.due.Due.{Due}
-use Rattle.ic_outgoing.specs.Standing.{KeepsPackets, GivesPacketUp}
+use Rattle.ic_timed_sender.specs.declared.due.Due.{Due}
+use Rattle.ic_timed_sender.specs.Standing.{KeepsPackets, GivesPacketUp}
 use Rattle.ic_hub.specs.Ticking.{RefusedFor}
 use Rattle.ic_hub.proofs.Ticking.{refused_for}
 use Rattle.ic_hub.proofs.tick.due_of.Goals as goal

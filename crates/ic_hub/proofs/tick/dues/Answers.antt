@@ -1,6 +1,6 @@
 use Rattle.std.proofs.Common.{refl, arith}
 use Rattle.std.proofs.lemmas.Option.{slice_get_read}
-use Rattle.ic_outgoing.specs.Standing.{GivesPacketUp}
+use Rattle.ic_timed_sender.specs.Standing.{GivesPacketUp}
 use Rattle.ic_hub.specs.Ticking.{MayResend, RefusedFor, RefusedFirst, Roomless}
 use Rattle.ic_hub.proofs.Ticking.{refused_first, handed_on}
 use Rattle.ic_hub.proofs.tick.dues.Goals as goal

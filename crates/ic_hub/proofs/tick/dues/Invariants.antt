@@ -1,6 +1,6 @@
 use Rattle.std.proofs.Common.{◌≡◌, ◌++◌, map, take}
 use Rattle.std.specs.List.{AllByRecursion, flat_map}
-use Rattle.ic_outgoing.specs.Outgoing.{numbers_due, datagrams_due}
+use Rattle.ic_timed_sender.specs.Timed.{numbers_due, datagrams_due}
 use Rattle.ic_hub.specs.Ticking.{MayResend}
 use Rattle.ic_hub.proofs.tick.dues.Given as goal
 

@@ -1,4 +1,4 @@
-use Rattle.ic_outgoing.specs.Outgoing.{ticking}
+use Rattle.ic_timed_sender.specs.Timed.{ticking}
 use Rattle.ic_hub.specs.Ticking.{Passes}
 use Rattle.ic_hub.proofs.Ticking.{Passed}
 use Rattle.ic_hub.proofs.tick.pass.Given as goal

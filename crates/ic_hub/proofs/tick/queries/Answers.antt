@@ -1,6 +1,6 @@
 use Rattle.std.proofs.Common.{refl, arith}
 use Rattle.std.proofs.lemmas.Option.{slice_get_read}
-use Rattle.ic_outgoing.specs.Standing.{GivesQueryUp}
+use Rattle.ic_timed_sender.specs.Standing.{GivesQueryUp}
 use Rattle.ic_hub.specs.Ticking.{MayAsk, RefusedFor, RefusedFirst}
 use Rattle.ic_hub.proofs.Ticking.{refused_first, handed_on}
 use Rattle.ic_hub.proofs.tick.queries.Goals as goal

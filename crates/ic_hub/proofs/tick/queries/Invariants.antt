@@ -1,6 +1,6 @@
 use Rattle.std.proofs.Common.{◌≡◌, ◌++◌, take}
 use Rattle.std.specs.List.{AllByRecursion, flat_map}
-use Rattle.ic_outgoing.specs.Outgoing.{queries_due}
+use Rattle.ic_timed_sender.specs.Timed.{queries_due}
 use Rattle.ic_hub.specs.Ticking.{MayAsk}
 use Rattle.ic_hub.proofs.tick.queries.Given as goal
 

@@ -1,6 +1,6 @@
 use Rattle.std.proofs.Common.{List, sym, subst}
 use Rattle.ic_base.specs.declared.datagram.Datagram.{Datagram}
-use Rattle.ic_outgoing.specs.Standing.{KeepsQuery, GivesQueryUp}
+use Rattle.ic_timed_sender.specs.Standing.{KeepsQuery, GivesQueryUp}
 use Rattle.ic_hub.specs.Ticking.{RefusedFor}
 use Rattle.ic_hub.proofs.Ticking.{refused_for}
 use Rattle.ic_hub.proofs.tick.query_of.Goals as goal

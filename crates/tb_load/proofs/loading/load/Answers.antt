@@ -1,5 +1,5 @@
 use Rattle.std.proofs.Common.{◌≡◌, sym, ◌∙◌, ap, map, subst}
-use Rattle.pl_rows.specs.Fitting.{Fits}
+use Rattle.pl_ops.specs.Fitting.{Fits}
 use Rattle.tb_load.specs.Kept.{spread_of, loaded_of, schemas_of}
 use Rattle.tb_load.specs.Standing.{StandWherePlaced, StandOnce, StandByKey, StandNowhereElse}
 use Rattle.tb_load.proofs.Loaded.{where_placed, once, by_key, nowhere_else}

@@ -1,5 +1,5 @@
 use Rattle.std.proofs.Common.{◌∙◌, ap}
-use Rattle.pl_rows.specs.declared.loaded.Spread.TheVariants.{Apart}
+use Rattle.pl_ops.specs.declared.loaded.Spread.TheVariants.{Apart}
 use Rattle.tb_load.proofs.Steps.{kept_at_none}
 use Rattle.tb_load.proofs.loading.spread.Goals as goal
 

@@ -1,5 +1,5 @@
 use Rattle.std.proofs.Common.{◌∙◌}
-use Rattle.pl_rows.specs.Placed.{rows_at}
+use Rattle.pl_ops.specs.Placed.{rows_at}
 use Rattle.gd_sim.proofs.Steps.{play_on}
 use Rattle.gd_sim.proofs.sim.Sim.all_turns.Goals as goal
 

@@ -1,5 +1,5 @@
 use Rattle.std.proofs.Common.{◌+◌, ap, ◌∙◌, arith}
-use Rattle.gd_node.specs.Noding.{fresh}
+use Rattle.ic_port.specs.Noding.{fresh}
 use Rattle.gd_sim.proofs.Starting.{first_new, next_new}
 use Rattle.gd_sim.proofs.sim.Sim.new.Goals as goal
 

@@ -1,4 +1,4 @@
-use Rattle.pl_rows.specs.Placed.{rows_at}
+use Rattle.pl_ops.specs.Placed.{rows_at}
 use Rattle.gd_sim.proofs.Steps.{play_on, any_rows, all_on}
 use Rattle.gd_sim.proofs.sim.Sim.round.Goals as goal
 

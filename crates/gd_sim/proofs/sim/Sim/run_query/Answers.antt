@@ -1,6 +1,6 @@
 use Rattle.std.proofs.Common.{refl, subst, sym, ◌∙◌, Some, ap, ◌<◌}
 use Rattle.std.proofs.lemmas.Option.{slice_get-get_or}
-use Rattle.pl_rows.specs.Placed.{rows_at}
+use Rattle.pl_ops.specs.Placed.{rows_at}
 use Rattle.gd_sim.specs.Stations.{TellsOver}
 use Rattle.gd_sim.proofs.Running.{may_go_on, was_ok, went, ran, faulty, handed_on, too_late, over}
 use Rattle.gd_sim.proofs.sim.Sim.run_query.Goals as goal

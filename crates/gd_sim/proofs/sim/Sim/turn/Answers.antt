@@ -1,5 +1,5 @@
 use Rattle.std.proofs.Common.{Vec, Global, length, ap, ◌∙◌}
-use Rattle.pl_rows.specs.Placed.{rows_at}
+use Rattle.pl_ops.specs.Placed.{rows_at}
 use Rattle.gd_sim.specs.declared.station.Station.{Station}
 use Rattle.gd_sim.proofs.Growing.{changes_at, station_at, new_here, sent, can_turn, turn_goes, turn_fault}
 use Rattle.gd_sim.proofs.sim.Sim.turn.Goals as goal

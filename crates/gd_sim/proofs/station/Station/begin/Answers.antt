@@ -1,6 +1,6 @@
 use Rattle.std.proofs.Common.{sym, subst}
 use Rattle.ic_law.specs.Asking.{AreEnds}
-use Rattle.gd_node.specs.Noding.{place_of}
+use Rattle.ic_port.specs.Noding.{place_of}
 use Rattle.gd_sim.proofs.Starting.{are_ends}
 use Rattle.gd_sim.proofs.station.Station.begin.Goals as goal
 

@@ -1,14 +1,19 @@
-use Rattle.std.proofs.Common.{Ok, ◌∙◌}
-use Rattle.std.proofs.lemmas.Iterator.Adapters.{fact_from_extend}
-use Rattle.std.proofs.lemmas.Iterator.{YieldsList-from_slice}
-use Rattle.std.specs.declared.alloc.AllocError.{AllocError}
-use Rattle.indexmap.specs.IndexSet.{insert_all}
+use Rattle.std.proofs.Common.{◌==◌, map, position, ap, ◌∙◌}
+use Rattle.std.specs.HashMap.{get}
 use Rattle.ic_base.specs.Keys.{key_eq}
-use Rattle.ic_conntab.proofs.Keys.{insert_all-distinct, key_eq-flips}
+use Rattle.ic_conntab.specs.Ends.{distinct, places_where}
+use Rattle.ic_conntab.proofs.Found.{all_found}
 use Rattle.ic_conntab.proofs.places.Places.new.Goals as goal
 
-pub returns : goal.returns
-unfolding key_eq
-returns c =
-    fact_from_extend {E = AllocError} (λ y. y.now) (Ok c.in_ok-extend.field-0) c.in_ok-extend.ensures.ran (λ it b. YieldsList-from_slice _ b.0)
-    (λ xs e h. h.0 ∙ (λ i. insert_all key_eq (c.in_ok-all.ensures.empty i) (e i)) ∙ insert_all-distinct key_eq key_eq-flips c.args.keys.now c.requires.distinct)
+pub invariant_of-result : goal.invariant_of-result
+invariant_of-result c =
+    all_found c.args.ends.now c.in_ok-from_slice.field-0.items c.in_ok-sending.sending.items c.in_ok-receiving.receiving.items c.in_ok-keys.keys.keys
+    (get key_eq c.in_ok-senders.senders) (get key_eq c.in_ok-receivers.receivers) c.in_ok-sides.sides.items c.in_ok-motions.motions.keys c.in_ok-rows.rows.items c.in_ok-order.order.items
+    c.in_ok-from_slice.ensures.items c.in_ok-sending.ensures c.in_ok-receiving.ensures
+    (λ k. c.in_ok-senders.ensures k ∙ ap (position (key_eq k)) c.deref.ensures.value)
+    (λ k. c.in_ok-receivers.ensures k ∙ ap (position (key_eq k)) c.deref-2.ensures.value)
+    c.in_ok-keys.ensures
+    (c.in_ok-sides.ensures ∙ ap (map (λ k. record { sender = get key_eq c.in_ok-senders.senders k; receiver = get key_eq c.in_ok-receivers.receivers k })) c.as_slice.ensures.keys)
+    (c.in_ok-motions.ensures ∙ ap (λ l. distinct (λ m n. m == n) (map (λ k. k.motion) l)) c.deref-3.ensures.value)
+    (c.in_ok-rows.ensures ∙ (λ i. map (λ m. places_where (λ k. k.motion == m) (c.deref-4.ensures.value i)) (c.as_slice-2.ensures.keys i)))
+    c.in_ok-order.ensures

@@ -1,7 +1,7 @@
 use Rattle.std.proofs.Common.{◌++◌, [], ◌∷◌, Err, ap, sym, ◌∙◌, subst}
 use Rattle.ic_base.specs.declared.keys.BeginNo.TheVariants.{Memory}
 use Rattle.ic_conntab.specs.Table.{Table}
-use Rattle.ic_places.specs.Ends.{keys_of}
+use Rattle.ic_conntab.specs.Ends.{keys_of}
 use Rattle.ic_law.specs.Asking.{AreEnds}
 use Rattle.ic_hub.specs.Hubbing.{Hubbing, Living, place_in}
 use Rattle.ic_hub.specs.Entries.{begin_entry}

@@ -1,6 +1,6 @@
 use Rattle.std.proofs.Common.{◌≡◌, ap, sym, ◌∙◌, subst, slice_index_or, slice_get}
 use Rattle.std.proofs.lemmas.Option.{slice_get_within}
-use Rattle.ic_places.specs.Ends.{keys_of, sender_at, receiver_at}
+use Rattle.ic_conntab.specs.Ends.{keys_of, sender_at, receiver_at}
 use Rattle.ic_hub.specs.Hubbing.{Hubbing, Living, IsHub}
 use Rattle.ic_hub.proofs.Finds.{found_query, query_there, found_there, found_foreign, found_ended, found_unbegun, indexed}
 use Rattle.ic_hub.proofs.hub.Hub.find.Goals as goal

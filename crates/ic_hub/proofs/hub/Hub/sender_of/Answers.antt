@@ -1,5 +1,5 @@
 use Rattle.std.proofs.Common.{true, ap, sym, ◌∙◌, subst}
-use Rattle.ic_places.specs.declared.slots.Sides.{Sides}
+use Rattle.ic_conntab.specs.declared.slots.Sides.{Sides}
 use Rattle.ic_hub.specs.Hubbing.{Hubbing, IsHub}
 use Rattle.ic_hub.specs.Finding.{IsFound}
 use Rattle.ic_hub.proofs.Shape.{shape_of}

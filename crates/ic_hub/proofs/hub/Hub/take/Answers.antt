@@ -1,6 +1,6 @@
 use Rattle.std.proofs.Common.{◌≡◌, ℕ, ◌==◌, [], ◌∷◌, ◌++◌, None, Err, ap, sym, subst, ◌∙◌, set, position}
 use Rattle.std.specs.Prelude.{OnErr}
-use Rattle.ic_places.specs.Ends.{motions_of}
+use Rattle.ic_conntab.specs.Ends.{motions_of}
 use Rattle.ic_hub.specs.contracts.hub.Hub.{the_view}
 use Rattle.ic_hub.specs.contracts.query.Query.{the_view as query_view}
 use Rattle.ic_hub.specs.Hubbing.{Hubbing, Living}

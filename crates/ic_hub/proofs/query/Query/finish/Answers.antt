@@ -1,5 +1,5 @@
 use Rattle.std.proofs.Common.{◌≡◌, Some, ap, sym, ◌∙◌, slice_get, slice_index_or}
-use Rattle.ic_outgoing.specs.Outgoing.{OutgoingState}
+use Rattle.ic_timed_sender.specs.Timed.{TimedState}
 use Rattle.ic_hub.specs.Hubbing.{Living}
 use Rattle.ic_hub.specs.Calls.{Answered}
 use Rattle.ic_hub.proofs.Putting.{at_index, behind, set_in}
@@ -33,4 +33,4 @@ returns c =
       end = c.finish.ensures.end;
       now = c.finish.ensures.now;
       stands = c.finish.ensures.stands;
-    }) (ap (λ (o : OutgoingState). o.sending.finished) same ∙ sym c.is_finished.ensures.value ∙ c.if-is_finished.false) c.finish.ensures.err c.finish.ensures.formed
+    }) (ap (λ (o : TimedState). o.sending.finished) same ∙ sym c.is_finished.ensures.value ∙ c.if-is_finished.false) c.finish.ensures.err c.finish.ensures.formed

@@ -1,5 +1,5 @@
 use Rattle.std.proofs.Common.{◌≡◌, ap, sym, ◌∙◌, subst, slice_index_or}
-use Rattle.ic_places.specs.Slots.{IsWithin}
+use Rattle.ic_conntab.specs.Slots.{IsWithin}
 use Rattle.ic_hub.specs.Hubbing.{Living, IsLiving}
 use Rattle.ic_hub.specs.Leaving.{TellsClear}
 use Rattle.ic_hub.proofs.Putting.{at_index}

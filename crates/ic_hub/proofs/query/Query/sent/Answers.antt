@@ -1,5 +1,5 @@
 use Rattle.std.proofs.Common.{◌≡◌, Some, ap, sym, ◌∙◌, subst, slice_index_or}
-use Rattle.ic_outgoing.specs.Outgoing.{OutgoingState}
+use Rattle.ic_timed_sender.specs.Timed.{TimedState}
 use Rattle.ic_hub.specs.Hubbing.{Living}
 use Rattle.ic_hub.specs.Counting.{IsCountOfSender}
 use Rattle.ic_hub.proofs.Putting.{at_index}
@@ -11,4 +11,4 @@ returns c = λ sender at.
     let here = at_index c.args.self.now.senders c.args.place c.index.result.now c.requires.here (c.index.ensures ∙ ap (λ xs. slice_index_or xs c.args.place c.index.result.now) (sym senders)) in
     let both : Some c.index.result.now ≡ Some sender = sym here ∙ at in
     let same : c.index.result.now ≡ sender = cc in
-    subst (λ (o : OutgoingState). IsCountOfSender o c.of_sender.result) same c.of_sender.ensures
+    subst (λ (o : TimedState). IsCountOfSender o c.of_sender.result) same c.of_sender.ensures

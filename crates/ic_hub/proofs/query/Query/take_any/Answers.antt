@@ -1,6 +1,6 @@
 use Rattle.std.proofs.Common.{Some, Ok, Err, ap, sym, subst, ◌∙◌, set, slice_get, length-set}
 use Rattle.std.proofs.lemmas.Result.{err_from_is_err_and}
-use Rattle.ic_places.specs.Ends.{motions_of}
+use Rattle.ic_conntab.specs.Ends.{motions_of}
 use Rattle.ic_hub.specs.contracts.query.Query.{the_view}
 use Rattle.ic_hub.specs.Hubbing.{Living}
 use Rattle.ic_hub.specs.Taking.{TakesAny}

@@ -1,6 +1,6 @@
 use Rattle.std.proofs.Common.{[], ◌∷◌, ◌++◌, refl, Some, subst}
 use Rattle.ic_base.specs.declared.datagram.Parcel.{Parcel}
-use Rattle.ic_tally.specs.Counts.{HasCounted}
+use Rattle.ic_chunk.specs.Counts.{HasCounted}
 use Rattle.ic_receiver.specs.Receiving.{Receiving, HandsOver}
 use Rattle.ic_receiver.proofs.receiver.Receiver.hand_over.Goals as goal
 

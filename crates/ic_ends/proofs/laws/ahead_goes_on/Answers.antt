@@ -1,5 +1,0 @@
-use Rattle.ic_ends.proofs.Ahead.{ahead_goes_on}
-use Rattle.ic_ends.proofs.laws.ahead_goes_on.Goals as goal
-
-pub returns : goal.returns
-returns c = ahead_goes_on

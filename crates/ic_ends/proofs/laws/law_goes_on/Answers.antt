@@ -1,5 +1,0 @@
-use Rattle.ic_ends.proofs.Whole.{law_goes_on}
-use Rattle.ic_ends.proofs.laws.law_goes_on.Goals as goal
-
-pub returns : goal.returns
-returns c = law_goes_on

@@ -1,5 +1,0 @@
-use Rattle.ic_ends.proofs.Spent.{query_spent_first}
-use Rattle.ic_ends.proofs.laws.query_spent_first.Goals as goal
-
-pub returns : goal.returns
-returns c = query_spent_first

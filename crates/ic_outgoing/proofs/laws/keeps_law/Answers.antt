@@ -1,4 +1,0 @@
-use Rattle.ic_outgoing.proofs.laws.keeps_law.Goals as goal
-
-pub returns : goal.returns
-returns c o h old = old.sends.law

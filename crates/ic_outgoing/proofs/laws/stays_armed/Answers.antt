@@ -1,5 +1,0 @@
-use Rattle.ic_sender.proofs.Knowing.{are_armed}
-use Rattle.ic_outgoing.proofs.laws.stays_armed.Goals as goal
-
-pub returns : goal.returns
-returns c o h old = are_armed o.sending o.held h old.sends

@@ -1,9 +1,0 @@
-use Rattle.ic_places.proofs.Named.{receivers_have_the_motion}
-use Rattle.ic_places.proofs.Rising.{receivers_rise}
-use Rattle.ic_places.proofs.laws.receivers_have_the_motion.Goals as goal
-
-pub returns-clause-has : goal.returns-clause-has
-returns-clause-has c = receivers_have_the_motion
-
-pub returns-clause-rise : goal.returns-clause-rise
-returns-clause-rise c = receivers_rise

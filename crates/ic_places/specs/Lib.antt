@@ -1,4 +1,0 @@
-pub mod Ends
-pub mod Slots
-pub mod Kept
-pub mod Laws

@@ -1,0 +1,59 @@
+use Rattle.std.proofs.Common.{List, sym, ◌∙◌, subst, refl, arith}
+use Rattle.ic_base.specs.declared.port.PortAsk.TheVariants as ask
+use Rattle.ic_base.specs.Ports.{gave}
+use Rattle.ic_law.specs.declared.history.HubAsk.TheVariants.{Take}
+use Rattle.ic_law.specs.declared.history.Entry.{Entry}
+use Rattle.ic_hub.specs.Entries.{took_of}
+use Rattle.ic_port.specs.Noding.{Noding, IsNode}
+use Rattle.ic_port.specs.Calls.{Works}
+use Rattle.ic_port.specs.contracts.node.Node.{the_view}
+use Rattle.ic_port.proofs.Noting.{took_memory}
+use Rattle.ic_port.proofs.Keeping.{Notes, after, notes_keep, notes_works, breaking, broken_keeps, broken_works}
+use Rattle.ic_port.proofs.Serving.{called_notes, take_same, called_log}
+use Rattle.ic_port.proofs.Taken.{any_from}
+use Rattle.ic_port.proofs.port.NodePort.take.Goals as goal
+
+pub invariant_of-self-in_default : goal.invariant_of-self-in_default
+invariant_of-self-in_default c =
+    subst (λ (l : List Entry). IsNode c.self.inside.session c.self.inside.at c.self.inside.packet (record (breaking (the_view c.self.inside) c.take-answer.new.self) { entries = l })) (sym c.reserve.ensures.items)
+    (broken_keeps c.self.inside.session c.self.inside.at c.self.inside.packet (the_view c.self.inside) c.take-answer.new.self c.self.invariant c.take-answer.ensures.place)
+
+pub returns-in_default-clause-steps : goal.returns-in_default-clause-steps
+returns-in_default-clause-steps c =
+    subst (λ (m : Noding). Works m (record (breaking (the_view c.self.inside) c.take-answer.new.self) { entries = c.reserve.new.self.items })) c.self.view_is
+    (subst (λ (l : List Entry). Works (the_view c.self.inside) (record (breaking (the_view c.self.inside) c.take-answer.new.self) { entries = l })) (sym c.reserve.ensures.items)
+    (broken_works (the_view c.self.inside) c.take-answer.new.self c.take-answer.ensures.place))
+
+notes : (c : goal.After-note) → Notes (the_view c.self.inside) c.take-answer.new.self c.note.new.entries.items (Take c.self.inside.query c.args.motion) (took_of c.take-answer.result)
+notes c =
+    called_notes (the_view c.self.inside) c.take-answer.new.self c.note.new.entries.items c.reserve.new.self.items (Take c.self.inside.query c.args.motion) (Take c.self.inside.query c.args.motion) (took_of c.take-answer.result) c.in-Some.reply
+    (record {
+      unbroken = c.if-self.false;
+      place = c.take-answer.ensures.place;
+      same = λ memory. took_memory _ c.take-answer.result c.take-answer.ensures.err memory;
+      stands = c.take-answer.ensures.stands;
+      asked_is = refl;
+      reserved_is = c.reserve.ensures.items;
+      told_is = c.in-Some.ensures.reply_is;
+      entries_are = c.note.ensures;
+    })
+    tt (omega arith)
+
+pub invariant_of-self-2 : goal.invariant_of-self-2
+invariant_of-self-2 c =
+    notes_keep c.self.inside.session c.self.inside.at c.self.inside.packet (the_view c.self.inside) c.take-answer.new.self c.note.new.entries.items (Take c.self.inside.query c.args.motion) (took_of c.take-answer.result) c.self.invariant (notes c) refl
+
+pub returns-clause-steps : goal.returns-clause-steps
+returns-clause-steps c =
+    subst (λ (m : Noding). Works m (after (the_view c.self.inside) c.take-answer.new.self c.self.inside.query c.self.inside.ends.items c.note.new.entries.items)) c.self.view_is
+    (notes_works (the_view c.self.inside) c.take-answer.new.self c.note.new.entries.items (Take c.self.inside.query c.args.motion) (took_of c.take-answer.result) (notes c) refl refl refl refl)
+
+pub returns-clause-log : goal.returns-clause-log
+returns-clause-log c =
+    called_log (the_view c.self.inside) c.args.self.now c.take-answer.new.self c.note.new.entries.items (Take c.self.inside.query c.args.motion) (took_of c.take-answer.result) (ask.Take c.args.motion) (gave c.in-Some.told) c.self.view_is (notes c)
+    (c.in-Some.ensures.logs (ask.Take c.args.motion) ∙ take_same c.self.inside.query c.args.motion (took_of c.take-answer.result))
+
+pub returns-clause-from : goal.returns-clause-from
+returns-clause-from c =
+    any_from c.self.inside.session c.self.inside.at c.self.inside.packet (the_view c.self.inside) c.args.self.now c.take-answer.new.self c.args.motion c.take-answer.result c.in-Some.told c.self.invariant c.self.view_is c.if-self.false c.take-answer.ensures.place
+    c.take-answer.ensures.stands c.requires.hears c.in-Some.ensures.given

@@ -1,0 +1,5 @@
+pub mod TimedSender
+pub mod Looking
+pub mod Emitted
+pub mod Standing
+pub mod Laws
