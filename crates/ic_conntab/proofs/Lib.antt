@@ -1,6 +1,6 @@
-pub mod Keys
+pub mod TableKeys
 pub mod Entries
-pub mod Finding
+pub mod LookUp
 pub mod Placing
 pub mod Ending
 pub mod Apart

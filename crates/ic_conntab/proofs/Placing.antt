@@ -13,8 +13,8 @@ use Rattle.ic_conntab.specs.declared.answer.Find.{Find}
 use Rattle.ic_conntab.specs.declared.answer.Find.TheVariants.{Here}
 use Rattle.ic_conntab.specs.Table.{placed, found}
 use Rattle.ic_conntab.specs.Laws.{PlaceIsItsOwn}
-use Rattle.ic_conntab.proofs.Keys.{key_eq-flips}
-use Rattle.ic_conntab.proofs.Finding.{found_here}
+use Rattle.ic_conntab.proofs.TableKeys.{key_eq-flips}
+use Rattle.ic_conntab.proofs.LookUp.{found_here}
 
 place_in : Find → Option ℕ
 place_in (Here place) = Some place

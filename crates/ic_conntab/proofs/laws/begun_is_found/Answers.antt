@@ -1,4 +1,4 @@
-use Rattle.ic_conntab.proofs.Finding.{begun_is_found}
+use Rattle.ic_conntab.proofs.LookUp.{begun_is_found}
 use Rattle.ic_conntab.proofs.laws.begun_is_found.Goals as goal
 
 pub returns : goal.returns

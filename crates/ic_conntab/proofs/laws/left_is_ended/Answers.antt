@@ -1,4 +1,4 @@
-use Rattle.ic_conntab.proofs.Finding.{left_is_ended}
+use Rattle.ic_conntab.proofs.LookUp.{left_is_ended}
 use Rattle.ic_conntab.proofs.laws.left_is_ended.Goals as goal
 
 pub returns : goal.returns

@@ -4,7 +4,7 @@ use Rattle.std.proofs.lemmas.Iterator.{YieldsList-from_slice}
 use Rattle.std.specs.declared.alloc.AllocError.{AllocError}
 use Rattle.indexmap.specs.IndexSet.{insert_all}
 use Rattle.ic_base.specs.Keys.{key_eq}
-use Rattle.ic_conntab.proofs.Keys.{insert_all-distinct, key_eq-flips}
+use Rattle.ic_conntab.proofs.TableKeys.{insert_all-distinct, key_eq-flips}
 use Rattle.ic_conntab.proofs.keys.Keys.new.Goals as goal
 
 pub returns : goal.returns
