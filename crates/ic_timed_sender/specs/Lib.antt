@@ -1,4 +1,4 @@
-pub mod TimedSender
+pub mod Timed
 pub mod Looking
 pub mod Emitted
 pub mod Standing

@@ -11,12 +11,12 @@ ghost use Rattle.ic_timed_sender.specs.Timed.{queue_of, SameEnd, HearsBy, taken_
 ghost use Rattle.ic_timed_sender.specs.Emitted.{AreOutgoing};
 ghost use Rattle.ic_timed_sender.specs.Standing.{StandsNext};
 
-use crate::outgoing::{TimedSender, bounded};
+use crate::timed::{TimedSender, bounded};
 use ic_base::Datagrams;
+use ic_chunk::count_more;
 use ic_expire::Expiry;
 use ic_header::{Flags, Header};
 use ic_sender::{SendNo, Sender};
-use ic_chunk::count_more;
 use std::alloc::Global;
 
 /// Does nothing. Its clauses: numbers of 32 bits are such.

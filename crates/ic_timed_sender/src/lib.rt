@@ -16,12 +16,12 @@
 mod due;
 mod events;
 mod laws;
-mod outgoing;
 mod ticks;
+mod timed;
 
 pub use due::{Due, Numbers};
 pub use laws::{are_formed, keeps_law, others_pass, stays_armed};
-pub use outgoing::TimedSender;
+pub use timed::TimedSender;
 
 #[cfg(test)]
 mod tests;

@@ -14,7 +14,7 @@ ghost use Rattle.ic_timed_sender.specs.Emitted.{AreOutgoing};
 ghost use Rattle.ic_timed_sender.specs.Standing.{StandsNext, Tells, KeepsPackets, GivesPacketUp, KeepsQuery, GivesQueryUp};
 
 use crate::due::{Due, Numbers};
-use crate::outgoing::{TimedSender, bounded};
+use crate::timed::{TimedSender, bounded};
 use ic_base::Datagrams;
 use ic_expire::{Due as DuePacket, Expiry};
 use ic_sender::{SendNo, Sender};
