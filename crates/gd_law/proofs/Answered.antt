@@ -12,7 +12,7 @@ use Rattle.ic_base.specs.declared.settings.Settings.{Settings}
 use Rattle.ic_row.specs.declared.value.Value.{Value}
 use Rattle.ic_chunk.specs.Assembly.{Assembles, together}
 use Rattle.ic_law.specs.declared.history.Entry.{Entry}
-use Rattle.ic_law.specs.History.{IsFinished}
+use Rattle.ic_law.specs.Putting.{IsFinished}
 use Rattle.ic_law.specs.Streams.{history_of, AreSent, AreTaken}
 use Rattle.ic_law.proofs.Lists.{Contains-none, Contains-head, Contains-tail, head_or_tail}
 use Rattle.gd_work.specs.Sending as sending

@@ -10,7 +10,9 @@ use Rattle.ic_base.specs.declared.datagram.Parcel.{Parcel}
 use Rattle.ic_header.proofs.Joining.{reads_spelled}
 use Rattle.ic_law.specs.declared.history.Entry.{Entry}
 use Rattle.ic_law.specs.Packets.{Packet, RowPacket, packet_read, packet_of, key_of, goes_forth}
-use Rattle.ic_law.specs.History.{emits, emitted_of, arrives, arrived_of, rows_in, rows_emitted_of, rows_arrived_of, chunks_put_of, IsFinished, takes, parcels_of, is_last_parcel, IsWhole}
+use Rattle.ic_law.specs.History.{emits, emitted_of, arrives, arrived_of, rows_in, rows_emitted_of, rows_arrived_of}
+use Rattle.ic_law.specs.Putting.{chunks_put_of, IsFinished}
+use Rattle.ic_law.specs.Taking.{takes, parcels_of, is_last_parcel, IsWhole}
 use Rattle.ic_law.specs.Filling.{Sealed, plain}
 use Rattle.ic_law.specs.Points.{Place, place_at, IsDirected, IsFormed, final_of, Fills, Sends}
 use Rattle.ic_law.specs.Hub.{HubPoint, HubLaw}

@@ -23,7 +23,8 @@ use Rattle.ic_law.specs.declared.history.HubReply.{HubReply}
 use Rattle.ic_law.specs.declared.history.HubReply.TheVariants.{Begun, Gave, Took, Came, Ticked, Cleared, Left, Memory}
 use Rattle.ic_law.specs.declared.history.HubNo.TheVariants as no
 use Rattle.ic_law.specs.declared.history.Entry.{Entry}
-use Rattle.ic_law.specs.History.{was_given, chunk_put, chunks_put_of, is_finish, finishes, finished_of, parcels_in, parcels_from, parcel_for, takes, parcels_of, payload_in, payloads_of, IsFinished}
+use Rattle.ic_law.specs.Putting.{was_given, chunk_put, chunks_put_of, is_finish, finishes, finished_of, IsFinished}
+use Rattle.ic_law.specs.Taking.{parcels_in, parcels_from, parcel_for, takes, parcels_of, payload_in, payloads_of}
 use Rattle.ic_law.specs.Points.{Place, place_at, IsHere}
 use Rattle.ic_law.specs.Receiving.{AnswersTake, Over, None as NothingNext, Taken}
 use Rattle.ic_law.specs.Hub.{HubPoint, HubLaw}

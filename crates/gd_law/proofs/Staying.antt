@@ -4,7 +4,7 @@ use Rattle.std.specs.List.{AllByRecursion, list_any}
 use Rattle.ic_base.specs.declared.keys.ConnKey.{ConnKey}
 use Rattle.ic_row.specs.declared.value.Value.{Value}
 use Rattle.ic_law.specs.declared.history.Entry.{Entry}
-use Rattle.ic_law.specs.History.{takes, parcels_of, is_last_parcel, IsWhole}
+use Rattle.ic_law.specs.Taking.{takes, parcels_of, is_last_parcel, IsWhole}
 use Rattle.ic_law.specs.Streams.{history_of}
 use Rattle.ic_law.proofs.Lists.{flat_map-append, list_any-append}
 use Rattle.gd_work.specs.Sending.{Scans}

@@ -5,7 +5,8 @@ use Rattle.ic_base.specs.declared.keys.ConnEnd.{ConnEnd}
 use Rattle.ic_row.specs.declared.value.Value.{Value}
 use Rattle.ic_chunk.specs.Assembly.{together}
 use Rattle.ic_law.specs.declared.history.Entry.{Entry}
-use Rattle.ic_law.specs.History.{chunks_put_of, IsFinished, IsWhole}
+use Rattle.ic_law.specs.Putting.{chunks_put_of, IsFinished}
+use Rattle.ic_law.specs.Taking.{IsWhole}
 use Rattle.ic_law.specs.Streams.{history_of, AreSent, AreTaken}
 use Rattle.gd_work.specs.Sending.{cut}
 use Rattle.gd_work.specs.Taking.{parcels_of, LetsOut}

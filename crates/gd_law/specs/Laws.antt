@@ -6,7 +6,8 @@ use Rattle.ic_row.specs.declared.value.Value.{Value}
 use Rattle.ic_law.specs.declared.history.Entry.{Entry}
 use Rattle.ic_law.specs.Points.{place_at}
 use Rattle.ic_law.specs.Hub.{HubLaw}
-use Rattle.ic_law.specs.History.{chunks_put_of, payloads_of, IsFinished, IsWhole}
+use Rattle.ic_law.specs.Putting.{chunks_put_of, IsFinished}
+use Rattle.ic_law.specs.Taking.{payloads_of, IsWhole}
 use Rattle.ic_law.specs.Streams.{NetworkLaw, history_of}
 use Rattle.gd_work.specs.Sending as sending
 use Rattle.gd_work.specs.Taking.{parcels_of, payloads_from}

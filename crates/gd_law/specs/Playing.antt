@@ -6,7 +6,7 @@ use Rattle.ic_base.specs.declared.settings.Settings.{Settings}
 use Rattle.ic_row.specs.declared.value.Value.{Value}
 use Rattle.ic_law.specs.declared.history.Entry.{Entry}
 use Rattle.ic_law.specs.Points.{place_at}
-use Rattle.ic_law.specs.History.{IsWhole}
+use Rattle.ic_law.specs.Taking.{IsWhole}
 use Rattle.ic_law.specs.Streams.{history_of}
 use Rattle.gd_work.specs.Sending.{Scanning, Scans}
 use Rattle.gd_work.specs.Taking.{parcels_of, LetsOut}

@@ -5,7 +5,9 @@ use Rattle.std.specs.Option.{option_to_list}
 use Rattle.std.proofs.lemmas.Option.{same_Some}
 use Rattle.std.proofs.lemmas.List.{length-append, length-map, take_more}
 use Rattle.ic_law.specs.declared.history.Entry.{Entry}
-use Rattle.ic_law.specs.History.{puts, takes, emits, rows_in, number_of, greatest, chunks_put_of, payloads_of, payload_in, is_last_parcel, rows_emitted_of, sent_upto, whole_of}
+use Rattle.ic_law.specs.History.{emits, rows_in, number_of, greatest, rows_emitted_of, sent_upto}
+use Rattle.ic_law.specs.Putting.{puts, chunks_put_of}
+use Rattle.ic_law.specs.Taking.{takes, payloads_of, payload_in, is_last_parcel, whole_of}
 use Rattle.ic_law.specs.Packets.{RowPacket}
 use Rattle.ic_base.specs.declared.keys.ConnKey.{ConnKey}
 use Rattle.ic_base.specs.declared.datagram.Datagram.{Datagram}

@@ -17,7 +17,10 @@ use Rattle.ic_law.specs.declared.history.HubAsk.TheVariants.{Begin, Put, Finish,
 use Rattle.ic_law.specs.declared.history.HubReply.{HubReply}
 use Rattle.ic_law.specs.declared.history.HubReply.TheVariants.{Begun, Gave, Took, Came, Ticked, Cleared, Left, Memory}
 use Rattle.ic_law.specs.declared.history.Entry.{Entry}
-use Rattle.ic_law.specs.History.{emits, emitted_of, arrives, arrived_of, leaves, left_of, was_given, is_halt, halts, IsHaltAsked, IsWhole}
+use Rattle.ic_law.specs.History.{emits, emitted_of, arrives, arrived_of}
+use Rattle.ic_law.specs.Putting.{was_given}
+use Rattle.ic_law.specs.Taking.{is_halt, halts, IsHaltAsked, IsWhole}
+use Rattle.ic_law.specs.Queries.{leaves, left_of}
 use Rattle.ic_law.specs.Points.{Place, place_at}
 use Rattle.ic_law.specs.Hub.{HubLaw}
 use Rattle.ic_law.specs.Emission.{EmissionLaw}

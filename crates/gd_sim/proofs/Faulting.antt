@@ -12,10 +12,11 @@ use Rattle.ic_law.specs.declared.history.HubReply.TheVariants.{Gave, Ticked, Mem
 use Rattle.ic_law.specs.declared.history.HubNo.TheVariants as hub
 use Rattle.ic_law.specs.declared.history.TickNo.TheVariants as tick
 use Rattle.ic_law.specs.declared.history.Entry.{Entry}
-use Rattle.ic_law.specs.History.{left_of, leaves, left_by, was_begun}
+use Rattle.ic_law.specs.Queries.{left_of, leaves, left_by, was_begun}
 use Rattle.ic_law.specs.Points.{Place, IsLive, IsHere}
 use Rattle.ic_law.specs.Arriving.{AnswersBegin, IsOldOne, IsTwice, IsNew, IsUnknownKey, unknown}
-use Rattle.ic_law.specs.Emission.{Timer, packets_spent, query_spent, spent_of}
+use Rattle.ic_law.specs.Timers.{Timer}
+use Rattle.ic_law.specs.Spending.{packets_spent, query_spent, spent_of}
 use Rattle.ic_law.specs.Hub.{HubLaw, HubPoint}
 use Rattle.ic_law.proofs.Lists.{Contains-none, Contains-head, Contains-one, Contains-middle, map-Contains, flat_map-append, Contains-flat_map, flat_map-Contains}
 use Rattle.ic_hub_laws.proofs.Lives.{live_push}

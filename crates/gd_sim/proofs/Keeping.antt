@@ -11,7 +11,9 @@ use Rattle.ic_law.specs.declared.history.HubReply.{HubReply}
 use Rattle.ic_law.specs.declared.history.TickNo.{TickNo}
 use Rattle.ic_law.specs.declared.history.TickNo.TheVariants as tick
 use Rattle.ic_law.specs.declared.history.Entry.{Entry}
-use Rattle.ic_law.specs.History.{takes, parcels_of, is_last_parcel, arrives, leaves, left_of, is_halt, halts, IsHaltAsked, IsWhole}
+use Rattle.ic_law.specs.History.{arrives}
+use Rattle.ic_law.specs.Taking.{takes, parcels_of, is_last_parcel, is_halt, halts, IsHaltAsked, IsWhole}
+use Rattle.ic_law.specs.Queries.{leaves, left_of}
 use Rattle.ic_law.specs.Points.{place_at}
 use Rattle.ic_law.proofs.Lists.{flat_map-append, flat_map-push, list_any-append, Contains-head, Contains-one}
 use Rattle.ic_hub.specs.Hubbing.{Hubbing, place_in}

@@ -17,7 +17,8 @@ use Rattle.ic_law.specs.declared.history.HubReply.{HubReply}
 use Rattle.ic_law.specs.declared.history.HubReply.TheVariants.{Begun, Gave, Took, Came, Ticked, Cleared, Left, Memory}
 use Rattle.ic_law.specs.declared.history.HubNo.TheVariants as hub
 use Rattle.ic_law.specs.declared.history.Entry.{Entry}
-use Rattle.ic_law.specs.History.{was_given, is_halt, halts}
+use Rattle.ic_law.specs.Putting.{was_given}
+use Rattle.ic_law.specs.Taking.{is_halt, halts}
 use Rattle.ic_law.specs.Logs.{one, put_logs, take_logs, halt_logs, logs_by, logs, log_of}
 use Rattle.gd_sim.specs.Run.{PutsOn}
 

@@ -15,7 +15,7 @@ use Rattle.gd_law.specs.Playing.{IsPlayed}
 use Rattle.gd_law.proofs.Staying.{played_stays}
 use Rattle.gd_law.proofs.Answered.{played_is_answered}
 use Rattle.ic_law.specs.Points.{place_at}
-use Rattle.ic_law.specs.History.{left_of}
+use Rattle.ic_law.specs.Queries.{left_of}
 use Rattle.ic_law.specs.Streams.{NetworkLaw, history_of}
 use Rattle.ic_port.specs.Calls.{begins_of}
 use Rattle.ic_port.specs.Noding.{Noding, place_of}

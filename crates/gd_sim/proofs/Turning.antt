@@ -20,7 +20,7 @@ use Rattle.ic_law.specs.declared.history.HubReply.{HubReply}
 use Rattle.ic_law.specs.declared.history.HubReply.TheVariants.{Took, Memory}
 use Rattle.ic_law.specs.declared.history.HubNo.TheVariants as hub
 use Rattle.ic_law.specs.declared.history.Entry.{Entry}
-use Rattle.ic_law.specs.History.{IsWhole, IsHalted, IsHaltAsked, halts}
+use Rattle.ic_law.specs.Taking.{IsWhole, IsHalted, IsHaltAsked, halts}
 use Rattle.ic_law.specs.Points.{IsEnded, IsLive}
 use Rattle.ic_law.specs.Arriving.{IsOfMotion, AnswersTakeAny, AllOver, NoneReady, Serves}
 use Rattle.ic_law.proofs.Lists.{flat_map-append, list_any-append, Contains-none, Contains-head, Contains-map, map-Contains}

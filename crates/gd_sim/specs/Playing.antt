@@ -9,7 +9,9 @@ use Rattle.ic_row.specs.declared.value.Value.{Value}
 use Rattle.ic_row.specs.Spelling.{HasLengths}
 use Rattle.ic_law.specs.declared.history.Entry.{Entry}
 use Rattle.ic_law.specs.Points.{place_at}
-use Rattle.ic_law.specs.History.{emitted_of, arrived_of, left_of, IsHaltAsked, IsWhole}
+use Rattle.ic_law.specs.History.{emitted_of, arrived_of}
+use Rattle.ic_law.specs.Taking.{IsHaltAsked, IsWhole}
+use Rattle.ic_law.specs.Queries.{left_of}
 use Rattle.ic_law.specs.Streams.{NetworkLaw, history_of}
 use Rattle.gd_net.specs.Network.{Net}
 use Rattle.gd_work.specs.declared.course.Course.TheVariants.{Done}

@@ -9,7 +9,7 @@ use Rattle.ic_law.specs.declared.history.HubReply.TheVariants.{Gave, Ticked}
 use Rattle.ic_law.specs.declared.history.HubNo.TheVariants as hub
 use Rattle.ic_law.specs.declared.history.TickNo.TheVariants as tick
 use Rattle.ic_law.specs.declared.history.Entry.{Entry}
-use Rattle.ic_law.specs.History.{left_of}
+use Rattle.ic_law.specs.Queries.{left_of}
 use Rattle.pl_ops.specs.declared.loaded.Spread.{Spread}
 use Rattle.gd_law.specs.Sessions.{IsSession}
 use Rattle.gd_law.specs.Answers.{IsAnswered}

@@ -3,7 +3,8 @@ use Rattle.std.specs.Prelude.{◌≡◌, ℕ, ◌-◌, List, length, Some, slice
 use Rattle.ic_base.specs.declared.keys.ConnKey.{ConnKey}
 use Rattle.ic_row.specs.declared.value.Value.{Value}
 use Rattle.ic_law.specs.declared.history.Entry.{Entry}
-use Rattle.ic_law.specs.History.{rows_emitted_of, sent_upto, whole_of}
+use Rattle.ic_law.specs.History.{rows_emitted_of, sent_upto}
+use Rattle.ic_law.specs.Taking.{whole_of}
 use Rattle.ic_law.specs.Streams.{history_of, AreSent, AreTaken}
 use Rattle.gd_law.specs.Answers.{gather_key}
 use Rattle.gd_sim.specs.declared.tally.Tally.{Tally}

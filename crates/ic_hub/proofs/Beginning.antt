@@ -11,7 +11,7 @@ use Rattle.ic_conntab.specs.Table.{Table, MayBegin}
 use Rattle.ic_conntab.specs.Table as table
 use Rattle.ic_law.specs.declared.history.Entry.{Entry}
 use Rattle.ic_law.specs.Points.{IsLive}
-use Rattle.ic_law.specs.Emission.{clock_of}
+use Rattle.ic_law.specs.Clock.{clock_of}
 use Rattle.ic_timed_sender.specs.Timed.{TimedState, begun_at}
 use Rattle.ic_receiver.specs.Receiving.{Receiving}
 use Rattle.ic_receiver.specs.Receiving as receiving

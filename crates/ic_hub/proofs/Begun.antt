@@ -18,7 +18,7 @@ use Rattle.ic_law.specs.declared.history.Entry.{Entry}
 use Rattle.ic_law.specs.Points.{Place, IsLive}
 use Rattle.ic_law.specs.Asking.{AreEnds}
 use Rattle.ic_law.specs.Arriving.{IsLiveQuery, IsOld, LastServed, IsGreatestLeft, IsOldOne, IsTwice, IsNew}
-use Rattle.ic_law.specs.Emission.{clock_of}
+use Rattle.ic_law.specs.Clock.{clock_of}
 use Rattle.ic_law.proofs.Lists.{Contains-none}
 use Rattle.ic_conntab.specs.Ends.{sending_ends, receiving_ends, keys_of, motions_of}
 use Rattle.ic_conntab.proofs.Named.{ends_have_their_sides}

@@ -15,7 +15,7 @@ use Rattle.ic_law.specs.declared.history.HubReply.TheVariants.{Cleared, Left}
 use Rattle.ic_law.specs.declared.history.Unclear.{Unclear}
 use Rattle.ic_law.specs.declared.history.LeaveNo.{LeaveNo}
 use Rattle.ic_law.specs.declared.history.Entry.{Entry}
-use Rattle.ic_law.specs.History.{left_of}
+use Rattle.ic_law.specs.Queries.{left_of}
 use Rattle.ic_law.specs.Points.{IsClear, IsEnded, IsLive}
 use Rattle.ic_law.specs.Arriving.{AreClear, IsFirstUnclear, IsLiveQuery, AnswersClear, AnswersLeave, LeavesNow}
 use Rattle.ic_law.proofs.Lists.{Contains-none, head_or_tail}

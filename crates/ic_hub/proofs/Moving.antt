@@ -9,13 +9,15 @@ use Rattle.ic_base.specs.declared.datagram.Datagram.{Datagram}
 use Rattle.ic_law.specs.declared.history.HubAsk.TheVariants.{Begin, Put, Finish, Take, TakeFrom, Halt, Arrive, Clear}
 use Rattle.ic_law.specs.declared.history.HubReply.TheVariants.{Took, Memory}
 use Rattle.ic_law.specs.declared.history.Entry.{Entry}
-use Rattle.ic_law.specs.History.{emits, was_begun, leaves, left_by, left_of, takes, parcel_for, parcels_from}
+use Rattle.ic_law.specs.History.{emits}
+use Rattle.ic_law.specs.Taking.{takes, parcel_for, parcels_from}
+use Rattle.ic_law.specs.Queries.{was_begun, leaves, left_by, left_of}
 use Rattle.ic_law.specs.Points.{Place, place_at, IsFormed}
 use Rattle.ic_law.specs.Asking.{IsAllowed}
 use Rattle.ic_law.specs.declared.history.HubAsk.{HubAsk}
 use Rattle.ic_law.proofs.Lists.{Contains-none}
 use Rattle.ic_law.specs.Arriving.{IsUnknownKey, IsServed, LastServed, AnswersTakeAny}
-use Rattle.ic_law.specs.Emission.{clock_of}
+use Rattle.ic_law.specs.Clock.{clock_of}
 use Rattle.ic_law.specs.Hub.{HubPoint}
 use Rattle.ic_law.specs.Receiving.{Receives}
 use Rattle.ic_conntab.specs.Ends.{motions_of}

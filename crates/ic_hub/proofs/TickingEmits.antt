@@ -10,7 +10,7 @@ use Rattle.ic_base.proofs.SameKeys.{key_eq-same, key_eq-tells}
 use Rattle.ic_law.specs.declared.history.Entry.{Entry}
 use Rattle.ic_law.specs.History.{rows_in}
 use Rattle.ic_law.specs.Points.{IsFormed}
-use Rattle.ic_law.specs.Emission.{queries_in}
+use Rattle.ic_law.specs.Emitting.{queries_in}
 use Rattle.ic_law.proofs.Lists.{flat_map-append, Contains-flat_map, Contains-middle}
 use Rattle.ic_sender.specs.Entries.{AreAmong}
 use Rattle.ic_timed_sender.specs.Timed.{TimedState, datagrams_due, queries_due}

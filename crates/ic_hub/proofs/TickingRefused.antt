@@ -9,7 +9,9 @@ use Rattle.ic_law.specs.declared.history.HubAsk.TheVariants.{Begin, Clear, Tick}
 use Rattle.ic_law.specs.declared.history.Entry.{Entry}
 use Rattle.ic_law.specs.declared.history.TickNo.{TickNo}
 use Rattle.ic_law.specs.declared.history.TickNo.TheVariants as no
-use Rattle.ic_law.specs.Emission.{packets_spent, query_spent, spent_of, spent_timers, spent_query, next_clock, timing_of, IsFirstSpent}
+use Rattle.ic_law.specs.Clock.{next_clock}
+use Rattle.ic_law.specs.Timing.{timing_of}
+use Rattle.ic_law.specs.Spending.{packets_spent, query_spent, spent_of, spent_timers, spent_query, IsFirstSpent}
 use Rattle.ic_law.specs.History.{sent_upto}
 use Rattle.ic_law.proofs.Lists.{Contains-none, head_or_tail}
 use Rattle.ic_conntab.specs.Ends.{sending_ends}

@@ -6,7 +6,7 @@ use Rattle.ic_conntab.specs.Table.{Table}
 use Rattle.ic_law.specs.declared.history.HubAsk.TheVariants.{Begin, Take, Tick}
 use Rattle.ic_law.specs.declared.history.Entry.{Entry}
 use Rattle.ic_law.specs.Arriving.{IsServed}
-use Rattle.ic_law.specs.Emission.{clock_of, next_clock}
+use Rattle.ic_law.specs.Clock.{clock_of, next_clock}
 use Rattle.ic_receiver.proofs.Others.{stands_silent}
 use Rattle.ic_timed_sender.specs.Timed.{next_tick, ticking}
 use Rattle.ic_timed_sender.specs.Standing.{Stands as SenderStands}

@@ -6,7 +6,8 @@ use Rattle.ic_base.specs.declared.settings.Settings.{Settings}
 use Rattle.ic_row.specs.declared.value.Value.{Value}
 use Rattle.ic_chunk.specs.Counts.{greatest_count}
 use Rattle.ic_law.specs.declared.history.Entry.{Entry}
-use Rattle.ic_law.specs.History.{rows_emitted_of, sent_upto, whole_of}
+use Rattle.ic_law.specs.History.{rows_emitted_of, sent_upto}
+use Rattle.ic_law.specs.Taking.{whole_of}
 use Rattle.ic_law.specs.Points.{IsHere}
 use Rattle.ic_law.specs.Streams.{AreSent, AreTaken}
 use Rattle.ic_timed_sender.specs.Timed.{TimedState}

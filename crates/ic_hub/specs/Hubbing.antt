@@ -9,7 +9,7 @@ use Rattle.ic_base.specs.Settings.{AreChecked}
 use Rattle.ic_conntab.specs.Table.{Table}
 use Rattle.ic_law.specs.Points.{Place, place_at}
 use Rattle.ic_law.specs.Asking.{AreEnds}
-use Rattle.ic_law.specs.Emission.{last_tick}
+use Rattle.ic_law.specs.Clock.{last_tick}
 use Rattle.ic_hub_laws.specs.Entries.{IsOurs}
 use Rattle.ic_timed_sender.specs.Timed.{TimedState}
 use Rattle.ic_conntab.specs.Ends.{sending_ends, receiving_ends, keys_of, motions_of}

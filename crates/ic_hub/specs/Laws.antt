@@ -2,7 +2,8 @@
 use Rattle.std.specs.Prelude.{◌≡◌, ◌↔◌, ℕ, List, Some, slice_get}
 use Rattle.ic_law.specs.declared.history.Entry.{Entry}
 use Rattle.ic_law.specs.Arriving.{IsLiveQuery}
-use Rattle.ic_law.specs.Emission.{EmissionLaw, IsArmed}
+use Rattle.ic_law.specs.Emission.{EmissionLaw}
+use Rattle.ic_law.specs.Armed.{IsArmed}
 use Rattle.ic_law.specs.Hub.{HubLaw}
 use Rattle.ic_timed_sender.specs.Timed.{TimedState}
 use Rattle.ic_sender.specs.Standing.{dues_held, query_at}

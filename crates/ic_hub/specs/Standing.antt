@@ -3,10 +3,10 @@ use Rattle.std.specs.Prelude.{◌≡◌, ◌↔◌, ℕ, ℤ, List, [], Option, 
 use Rattle.ic_base.specs.declared.keys.ConnEnd.{ConnEnd}
 use Rattle.ic_base.specs.declared.settings.Settings.{Settings}
 use Rattle.ic_law.specs.declared.history.Entry.{Entry}
-use Rattle.ic_law.specs.History.{left_of}
+use Rattle.ic_law.specs.Queries.{left_of}
 use Rattle.ic_law.specs.Points.{IsLive}
 use Rattle.ic_law.specs.Arriving.{LastServed, IsGreatestLeft}
-use Rattle.ic_law.specs.Emission.{clock_of}
+use Rattle.ic_law.specs.Clock.{clock_of}
 use Rattle.ic_timed_sender.specs.Timed.{TimedState}
 use Rattle.ic_timed_sender.specs.Standing.{Stands as SenderStands}
 use Rattle.ic_conntab.specs.Ends.{motions_of}

@@ -4,7 +4,7 @@ ghost use Rattle.std.specs.List.{AllByRecursion, flat_map};
 ghost use Rattle.ic_base.specs.Settings.{AreChecked};
 ghost use Rattle.ic_law.specs.declared.history.Entry.{Entry};
 ghost use Rattle.ic_law.specs.Asking.{AreEnds};
-ghost use Rattle.ic_law.specs.Emission.{last_tick};
+ghost use Rattle.ic_law.specs.Clock.{last_tick};
 ghost use Rattle.ic_hub.specs.Hubbing.{Ascend, place_in};
 ghost use Rattle.ic_hub.specs.Entries.{begin_entry};
 ghost use Rattle.ic_hub.specs.Standing.{Stands};

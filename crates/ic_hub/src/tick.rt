@@ -21,7 +21,7 @@ use std::alloc::{AllocError, Global};
 const LAST: u64 = 18_446_744_073_709_551_488;
 
 /// The tick behind this one.
-#[tactic(auto, unfolding(ic_law::specs::Emission::last_tick))]
+#[tactic(auto, unfolding(ic_law::specs::Clock::last_tick))]
 fn tick_behind(now: u64) -> u64
     ensures { result ≡ next_tick now }
 {

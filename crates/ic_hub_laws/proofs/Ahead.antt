@@ -7,7 +7,7 @@ use Rattle.ic_base.specs.declared.keys.ConnEnd.{ConnEnd}
 use Rattle.ic_header.specs.declared.flags.Flags.TheVariants.{Ack, Stop, Disorder, Duplicate}
 use Rattle.ic_law.specs.declared.history.HubAsk.TheVariants.{Take}
 use Rattle.ic_law.specs.declared.history.Entry.{Entry}
-use Rattle.ic_law.specs.History.{leaves, left_of}
+use Rattle.ic_law.specs.Queries.{leaves, left_of}
 use Rattle.ic_law.specs.Points.{Place, IsHere}
 use Rattle.ic_law.specs.Arriving.{IsLiveQuery, IsOld}
 use Rattle.ic_law.specs.Arriving.{AnswersTakeAny}

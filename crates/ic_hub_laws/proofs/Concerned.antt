@@ -16,9 +16,14 @@ use Rattle.ic_law.specs.declared.history.HubReply.{HubReply}
 use Rattle.ic_law.specs.declared.history.HubReply.TheVariants.{Begun, Gave, Took, Came, Ticked, Cleared, Left, Memory}
 use Rattle.ic_law.specs.declared.history.Entry.{Entry}
 use Rattle.ic_law.specs.Packets.{Packet, RowPacket, packet_of, key_of, goes_forth}
-use Rattle.ic_law.specs.History.{emits, rows_in, puts, chunk_put, finishes, is_finish, hears, heard_by, was_given, was_handled, takes, parcel_for, parcels_from, parcels_in, stores, stored_by, halts, is_halt, datagrams_of, datagram_tells_stored}
+use Rattle.ic_law.specs.History.{emits, rows_in, datagrams_of}
+use Rattle.ic_law.specs.Putting.{puts, chunk_put, finishes, is_finish, was_given}
+use Rattle.ic_law.specs.Taking.{takes, parcel_for, parcels_from, parcels_in, halts, is_halt}
+use Rattle.ic_law.specs.Storing.{stores, stored_by, datagram_tells_stored}
+use Rattle.ic_law.specs.Hearing.{hears, heard_by, was_handled}
 use Rattle.ic_law.specs.Points.{Place, Emits}
-use Rattle.ic_law.specs.Emission.{queries_in, ticks_by}
+use Rattle.ic_law.specs.Clock.{ticks_by}
+use Rattle.ic_law.specs.Emitting.{queries_in}
 use Rattle.ic_law.specs.Hub.{Ticking, kind_asked, IsReplyTo}
 use Rattle.ic_law.proofs.Lists.{Contains-head}
 use Rattle.ic_law.proofs.Readings.{rows_in-reads, rows_go_forth}

@@ -10,7 +10,7 @@ use Rattle.ic_law.specs.declared.history.HubAsk.TheVariants.{Begin, Leave}
 use Rattle.ic_law.specs.declared.history.HubReply.{HubReply}
 use Rattle.ic_law.specs.declared.history.HubReply.TheVariants.{Begun, Memory}
 use Rattle.ic_law.specs.declared.history.Entry.{Entry}
-use Rattle.ic_law.specs.History.{was_begun, left_by, leaves, left_of}
+use Rattle.ic_law.specs.Queries.{was_begun, left_by, leaves, left_of}
 use Rattle.ic_law.specs.Points.{Place, IsDirected, IsLive, IsHere}
 use Rattle.ic_law.specs.Arriving.{AnswersBegin, IsOldOne, IsTwice, IsNew}
 use Rattle.ic_law.specs.Hub.{HubLaw}

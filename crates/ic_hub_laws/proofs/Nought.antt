@@ -18,11 +18,17 @@ use Rattle.ic_law.specs.declared.history.HubReply.{HubReply}
 use Rattle.ic_law.specs.declared.history.HubReply.TheVariants.{Memory}
 use Rattle.ic_law.specs.declared.history.Entry.{Entry}
 use Rattle.ic_law.specs.Packets.{Packet, packet_read, packet_of, key_of, goes_forth, IsSegment}
-use Rattle.ic_law.specs.History.{rows_in, chunk_put, is_finish, heard_by, was_given, was_handled, takes, parcel_for, parcels_from, parcels_in, stores, stored_by, halts, is_halt, leaves, datagrams_of, datagram_tells_stored, packet_tells_stored, tells_stored, answer_in, left_of}
+use Rattle.ic_law.specs.History.{rows_in, datagrams_of}
+use Rattle.ic_law.specs.Putting.{chunk_put, is_finish, was_given}
+use Rattle.ic_law.specs.Taking.{takes, parcel_for, parcels_from, parcels_in, halts, is_halt}
+use Rattle.ic_law.specs.Storing.{stores, stored_by, datagram_tells_stored, packet_tells_stored, tells_stored}
+use Rattle.ic_law.specs.Hearing.{heard_by, was_handled, answer_in}
+use Rattle.ic_law.specs.Queries.{leaves, left_of}
 use Rattle.ic_law.specs.Points.{Place, Emits, IsDirected, IsHere, StopsAsked}
 use Rattle.ic_law.specs.Receiving.{handled}
 use Rattle.ic_law.specs.Arriving.{IsLiveQuery, IsOld, IsForeign, NoSegment, NotHere, Misdirected, OtherSession, NoSuchKey, turned_header, turned_back, AnswersBegin, IsOldOne, IsTwice, IsNew, AnswersClear, ClearNow, NotClear, AnswersLeave, LeavesNow, LeftUnclear, LeftNothing}
-use Rattle.ic_law.specs.Emission.{queries_in, ticks_by}
+use Rattle.ic_law.specs.Clock.{ticks_by}
+use Rattle.ic_law.specs.Emitting.{queries_in}
 use Rattle.ic_law.specs.Hub.{MayAnswer}
 use Rattle.ic_law.proofs.Lists.{Contains-head, Contains-none, Contains-one}
 use Rattle.ic_law.proofs.Readings.{rows_in-reads, rows_go_forth, left_of-push}

@@ -18,10 +18,10 @@ use Rattle.ic_law.specs.declared.history.TickNo.{TickNo}
 use Rattle.ic_law.specs.declared.history.TickNo.TheVariants.{Spent}
 use Rattle.ic_law.specs.declared.history.Entry.{Entry}
 use Rattle.ic_law.specs.Packets.{Packet, packet_of, goes_forth}
-use Rattle.ic_law.specs.History.{was_left}
+use Rattle.ic_law.specs.Queries.{was_left}
 use Rattle.ic_law.specs.Points.{Place, Emits, IsLive, IsHere, IsClear}
 use Rattle.ic_law.specs.Arriving.{Arrives, Stranger, OfEnded, OfNotBegun, TooLate, IsUnknownKey, IsOfMotion, unknown, AnswersTakeAny, AnswersBegin, IsOldOne, IsTwice, IsNew, AnswersClear, ClearNow, NotClear, AnswersLeave, LeavesNow, LeftUnclear, LeftNothing}
-use Rattle.ic_law.specs.Emission.{IsFirstSpent}
+use Rattle.ic_law.specs.Spending.{IsFirstSpent}
 use Rattle.ic_law.specs.Hub.{HubLaw, IsReplyTo, kind_asked, kind_replied}
 use Rattle.ic_hub_laws.specs.Entries.{IsNought, NoMemory, UnknownPut, UnknownFinish, UnknownHalt, UnknownTakeFrom, UnknownTake, RefusedTake, Begins, Clears, Leaves, Unread, Strange, EndedQuery, UnbegunQuery, LateAnswer, RefusedTick}
 use Rattle.ic_hub_laws.specs.Laws.{NoughtPoint}

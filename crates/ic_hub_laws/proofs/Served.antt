@@ -9,7 +9,7 @@ use Rattle.ic_base.specs.declared.keys.ConnEnd.{ConnEnd}
 use Rattle.ic_law.specs.declared.history.HubAsk.TheVariants.{Take}
 use Rattle.ic_law.specs.declared.history.HubReply.TheVariants.{Took}
 use Rattle.ic_law.specs.declared.history.Entry.{Entry}
-use Rattle.ic_law.specs.History.{takes}
+use Rattle.ic_law.specs.Taking.{takes}
 use Rattle.ic_law.specs.Arriving.{IsServed, Nobody, Somebody}
 use Rattle.ic_law.proofs.Lists.{Contains-none, Contains-one, Contains-flat_map}
 use Rattle.ic_hub_laws.specs.Serving.{ServedBefore, ServedNow, ServedNobody}

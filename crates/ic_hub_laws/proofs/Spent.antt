@@ -2,7 +2,8 @@
 use Rattle.std.proofs.Common.{◌≡◌, ◌+◌, min, List, [], ◌∷◌, ◌++◌, refl, ap, ◌∙◌, arith}
 use Rattle.std.specs.List.{Contains, flat_map}
 use Rattle.ic_base.specs.declared.keys.ConnEnd.{ConnEnd}
-use Rattle.ic_law.specs.Emission.{last_tick, ticks_by, ticks_of, packets_spent, query_spent}
+use Rattle.ic_law.specs.Clock.{last_tick, ticks_by, ticks_of}
+use Rattle.ic_law.specs.Spending.{packets_spent, query_spent}
 use Rattle.ic_law.proofs.Lists.{Contains-head, Contains-tail, flat_map-append}
 use Rattle.ic_law.proofs.Timings.{ticks_of-push}
 use Rattle.ic_hub_laws.specs.Clocks.{ClockMoves, NothingSpent, PacketSpentFirst, QuerySpentFirst}

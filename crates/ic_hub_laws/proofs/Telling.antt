@@ -13,8 +13,9 @@ use Rattle.ic_law.specs.declared.history.HubAsk.{HubAsk}
 use Rattle.ic_law.specs.declared.history.HubReply.{HubReply}
 use Rattle.ic_law.specs.declared.history.Entry.{Entry}
 use Rattle.ic_law.specs.Packets.{Packet, RowPacket, packet_read, packet_of, key_of, is_rows, is_last, goes_forth}
-use Rattle.ic_law.specs.History.{emits, rows_read, rows_in, answer_read, answer_in}
-use Rattle.ic_law.specs.Emission.{is_query, queries_read, queries_in}
+use Rattle.ic_law.specs.History.{emits, rows_read, rows_in}
+use Rattle.ic_law.specs.Hearing.{answer_read, answer_in}
+use Rattle.ic_law.specs.Emitting.{is_query, queries_read, queries_in}
 use Rattle.ic_law.specs.Points.{Emits}
 use Rattle.ic_law.proofs.Lists.{Contains-none, Contains-head, Contains-tail, flat_map-Contains}
 use Rattle.ic_law.proofs.Readings.{rows_go_forth}

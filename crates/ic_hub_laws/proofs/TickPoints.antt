@@ -10,9 +10,12 @@ use Rattle.ic_law.specs.declared.history.HubAsk.TheVariants.{Begin, Put, Finish,
 use Rattle.ic_law.specs.declared.history.HubReply.TheVariants.{Ticked}
 use Rattle.ic_law.specs.declared.history.Entry.{Entry}
 use Rattle.ic_law.specs.Packets.{Packet, RowPacket, goes_forth}
-use Rattle.ic_law.specs.History.{emits, emitted_of, rows_in, hears, is_stop, puts, finishes, takes, stopped_of, IsStopped}
+use Rattle.ic_law.specs.History.{emits, emitted_of, rows_in}
+use Rattle.ic_law.specs.Putting.{puts, finishes}
+use Rattle.ic_law.specs.Taking.{takes}
+use Rattle.ic_law.specs.Hearing.{hears, is_stop, stopped_of, IsStopped}
 use Rattle.ic_law.specs.Points.{Place, Emits, SameAgain, Sends, IsHere}
-use Rattle.ic_law.specs.Emission.{queries_then}
+use Rattle.ic_law.specs.Emitting.{queries_then}
 use Rattle.ic_law.specs.Hub.{IsSendingEnd, kind_asked, kind_replied}
 use Rattle.ic_law.proofs.Lists.{Contains-flat_map, Contains-head, Contains-middle}
 use Rattle.ic_law.proofs.Readings.{rows_in-reads, emitted_of-push, stopped_of-push}

@@ -10,10 +10,12 @@ use Rattle.ic_law.specs.declared.history.HubAsk.TheVariants.{TakeFrom, Halt, Arr
 use Rattle.ic_law.specs.declared.history.HubReply.TheVariants.{Ticked}
 use Rattle.ic_law.specs.declared.history.Entry.{Entry}
 use Rattle.ic_law.specs.Packets.{Packet, key_of, goes_forth}
-use Rattle.ic_law.specs.History.{datagrams_of, rows_in, takes, stores, halts}
+use Rattle.ic_law.specs.History.{datagrams_of, rows_in}
+use Rattle.ic_law.specs.Taking.{takes, halts}
+use Rattle.ic_law.specs.Storing.{stores}
 use Rattle.ic_law.specs.Points.{Emits, IsHere}
 use Rattle.ic_law.specs.Arriving.{IsUnknownKey}
-use Rattle.ic_law.specs.Emission.{queries_in}
+use Rattle.ic_law.specs.Emitting.{queries_in}
 use Rattle.ic_sender.specs.Entries.{IsNothingOf}
 use Rattle.ic_receiver.specs.Entries.{IsSilent as IsSilentReceiving}
 use Rattle.ic_hub_laws.specs.Entries.{IsTick}

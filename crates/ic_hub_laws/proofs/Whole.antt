@@ -9,10 +9,16 @@ use Rattle.ic_base.specs.declared.datagram.Datagram.{Datagram}
 use Rattle.ic_header.specs.declared.flags.Flags.{Flags}
 use Rattle.ic_law.specs.declared.history.Entry.{Entry}
 use Rattle.ic_law.specs.Packets.{Packet, RowPacket, is_rows, goes_forth}
-use Rattle.ic_law.specs.History.{emits, emitted_of, rows_in, rows_emitted_of, puts, chunks_put_of, finishes, finished_of, IsFinished, stopped_of, IsStopped, sent_upto}
+use Rattle.ic_law.specs.History.{emits, emitted_of, rows_in, rows_emitted_of, sent_upto}
+use Rattle.ic_law.specs.Putting.{puts, chunks_put_of, finishes, finished_of, IsFinished}
+use Rattle.ic_law.specs.Hearing.{stopped_of, IsStopped}
 use Rattle.ic_law.specs.Filling.{sealed_of}
 use Rattle.ic_law.specs.Points.{Place, Emits, SameAgain, SentUpto, Fills, Sends, IsHere}
-use Rattle.ic_law.specs.Emission.{Timing, timing_of, settled, moved, clock_of, ticks_by, query_due, queries_then, rows_at, emitted_numbers, EmitsDue, is_query, queries_in}
+use Rattle.ic_law.specs.Clock.{clock_of, ticks_by}
+use Rattle.ic_law.specs.Timers.{Timing}
+use Rattle.ic_law.specs.Timing.{timing_of, settled, moved, rows_at}
+use Rattle.ic_law.specs.Emitting.{query_due, queries_then, emitted_numbers, is_query, queries_in}
+use Rattle.ic_law.specs.Emission.{EmitsDue}
 use Rattle.ic_law.specs.Hub.{HubPoint, HubLaw}
 use Rattle.ic_law.proofs.Lists.{Contains-none}
 use Rattle.ic_law.proofs.Readings.{fold_every, every_push, emitted_of-push, rows_emitted_of-push, chunks_put_of-push, finished_of-push}

@@ -4,7 +4,8 @@ use Rattle.ic_base.specs.declared.keys.ConnKey.{ConnKey}
 use Rattle.ic_base.specs.declared.keys.ConnEnd.{ConnEnd}
 use Rattle.ic_base.specs.declared.settings.Settings.{Settings}
 use Rattle.ic_law.specs.declared.history.Entry.{Entry}
-use Rattle.ic_law.specs.Emission.{ticks_by, clock_of, next_clock, packets_spent, query_spent, spent_of}
+use Rattle.ic_law.specs.Clock.{ticks_by, clock_of, next_clock}
+use Rattle.ic_law.specs.Spending.{packets_spent, query_spent, spent_of}
 
 -- ---- the clock
 

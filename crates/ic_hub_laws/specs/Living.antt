@@ -4,7 +4,7 @@ use Rattle.ic_base.specs.declared.keys.ConnEnd.{ConnEnd}
 use Rattle.ic_base.specs.declared.datagram.Datagram.{Datagram}
 use Rattle.ic_law.specs.declared.history.HubAsk.TheVariants.{Begin, Leave}
 use Rattle.ic_law.specs.declared.history.Entry.{Entry}
-use Rattle.ic_law.specs.History.{was_begun, was_left, leaves, left_of}
+use Rattle.ic_law.specs.Queries.{was_begun, was_left, leaves, left_of}
 use Rattle.ic_law.specs.Points.{Place, IsDirected, IsLive, IsHere}
 use Rattle.ic_law.specs.Asking.{AreEnds}
 use Rattle.ic_law.specs.Arriving.{IsOld, IsGreatestLeft}

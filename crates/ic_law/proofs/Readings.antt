@@ -15,7 +15,12 @@ use Rattle.ic_law.specs.declared.history.HubReply.{HubReply}
 use Rattle.ic_law.specs.declared.history.HubReply.TheVariants.{Begun, Gave, Took, Came, Ticked, Cleared, Left, Memory}
 use Rattle.ic_law.specs.declared.history.Entry.{Entry}
 use Rattle.ic_law.specs.Packets.{Packet, RowPacket, packet_of, key_of, is_rows, is_last, goes_forth}
-use Rattle.ic_law.specs.History.{rows_read, rows_in, takes, parcel_for, parcels_from, parcels_in, parcels_of, emits, arrives, emitted_of, arrived_of, rows_emitted_of, rows_arrived_of, number_of, greatest, puts, chunks_put_of, finishes, finished_of, is_last_parcel, whole_of, stores, stored_of, stored_numbers_of, hears, heard_of, is_stop, stopped_of, leaves, left_of, run_told, consumed_told, run_heard, consumed_heard}
+use Rattle.ic_law.specs.History.{rows_read, rows_in, emits, arrives, emitted_of, arrived_of, rows_emitted_of, rows_arrived_of, number_of, greatest}
+use Rattle.ic_law.specs.Putting.{puts, chunks_put_of, finishes, finished_of}
+use Rattle.ic_law.specs.Taking.{takes, parcel_for, parcels_from, parcels_in, parcels_of, is_last_parcel, whole_of}
+use Rattle.ic_law.specs.Storing.{stores, stored_of, stored_numbers_of}
+use Rattle.ic_law.specs.Hearing.{hears, heard_of, is_stop, stopped_of, run_told, consumed_told, run_heard, consumed_heard}
+use Rattle.ic_law.specs.Queries.{leaves, left_of}
 use Rattle.ic_law.specs.Points.{Every}
 use Rattle.ic_law.proofs.Lists.{cut_at, Contains-one, Contains-none, flat_map-push, flat_map-append, map-append, list_any-append, list_any-push}
 

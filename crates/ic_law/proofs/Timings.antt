@@ -3,7 +3,9 @@ use Rattle.std.proofs.Common.{◌≡◌, ◌+◌, List, [], ◌∷◌, ◌++◌,
 use Rattle.ic_base.specs.declared.keys.ConnKey.{ConnKey}
 use Rattle.ic_base.specs.declared.settings.Settings.{Settings}
 use Rattle.ic_law.specs.declared.history.Entry.{Entry}
-use Rattle.ic_law.specs.Emission.{ticks_by, ticks_of, Timing, fresh_timing, next_timing, timing_from, timing_of}
+use Rattle.ic_law.specs.Clock.{ticks_by, ticks_of}
+use Rattle.ic_law.specs.Timers.{Timing, fresh_timing}
+use Rattle.ic_law.specs.Timing.{next_timing, timing_from, timing_of}
 
 from-push : (c : ConnKey) (settings : Settings) (before : List Entry) (t : Timing) (es : List Entry) (e : Entry)
     → timing_from c settings before t (es ++ e ∷ []) ≡ next_timing c settings (before ++ es) e (timing_from c settings before t es)

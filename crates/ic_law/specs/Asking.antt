@@ -7,7 +7,7 @@ use Rattle.ic_chunk.specs.Chunks.{Chunk, IsChunk, spelled}
 use Rattle.ic_law.specs.declared.history.HubAsk.{HubAsk}
 use Rattle.ic_law.specs.declared.history.HubAsk.TheVariants.{Begin, Put, Finish, Take, TakeFrom, Halt, Arrive, Tick, Clear, Leave}
 use Rattle.ic_law.specs.declared.history.Entry.{Entry}
-use Rattle.ic_law.specs.History.{IsFinished}
+use Rattle.ic_law.specs.Putting.{IsFinished}
 use Rattle.ic_law.specs.Points.{Place, IsLive, IsHere}
 
 -- an end of a query that begins here: of this session and query, and at this segment on its side

@@ -5,7 +5,8 @@ use Rattle.ic_base.specs.declared.settings.Settings.{Settings}
 use Rattle.ic_chunk.specs.Chunks.{spelled, end_of_stream}
 use Rattle.ic_chunk.specs.Assembly.{together}
 use Rattle.ic_law.specs.declared.history.Entry.{Entry}
-use Rattle.ic_law.specs.History.{chunks_put_of, finished_of, run_heard}
+use Rattle.ic_law.specs.Putting.{chunks_put_of, finished_of}
+use Rattle.ic_law.specs.Hearing.{run_heard}
 
 -- what a packet of rows carries, and whether the stream ends with it
 pub record Sealed : Type 0 where

@@ -16,9 +16,11 @@ use Rattle.ic_law.specs.declared.history.TickNo.TheVariants.{Spent}
 use Rattle.ic_law.specs.declared.history.Entry.{Entry}
 use Rattle.ic_header.specs.declared.flags.Flags.{Flags}
 use Rattle.ic_law.specs.Asking.{IsAllowed}
-use Rattle.ic_law.specs.Emission.{IsFirstSpent}
+use Rattle.ic_law.specs.Spending.{IsFirstSpent}
 use Rattle.ic_law.specs.Packets.{Packet, packet_of, goes_forth}
-use Rattle.ic_law.specs.History.{emits, was_left, IsStopped}
+use Rattle.ic_law.specs.History.{emits}
+use Rattle.ic_law.specs.Hearing.{IsStopped}
+use Rattle.ic_law.specs.Queries.{was_left}
 use Rattle.ic_law.specs.Points.{Place, Every, Emits, IsFormed, SameAgain, Sends, TakesNext, Tells, StopsAsked, IsHere, IsClear}
 use Rattle.ic_law.specs.Receiving.{Answers}
 use Rattle.ic_law.specs.Sending.{Refuses}

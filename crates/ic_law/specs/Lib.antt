@@ -1,5 +1,10 @@
 pub mod Packets
 pub mod History
+pub mod Putting
+pub mod Taking
+pub mod Storing
+pub mod Hearing
+pub mod Queries
 pub mod Filling
 pub mod Numbers
 pub mod Points
@@ -7,7 +12,13 @@ pub mod Asking
 pub mod Receiving
 pub mod Sending
 pub mod Arriving
+pub mod Clock
+pub mod Timers
+pub mod Timing
+pub mod Emitting
+pub mod Spending
 pub mod Emission
+pub mod Armed
 pub mod Hub
 pub mod Streams
 pub mod Logs

@@ -6,7 +6,9 @@ use Rattle.ic_base.specs.declared.datagram.Datagram.{Datagram}
 use Rattle.ic_row.specs.declared.value.Value.{Value}
 use Rattle.ic_chunk.specs.Assembly.{Assembles}
 use Rattle.ic_law.specs.declared.history.Entry.{Entry}
-use Rattle.ic_law.specs.History.{emitted_of, arrived_of, chunks_put_of, IsFinished, payloads_of, IsWhole}
+use Rattle.ic_law.specs.History.{emitted_of, arrived_of}
+use Rattle.ic_law.specs.Putting.{chunks_put_of, IsFinished}
+use Rattle.ic_law.specs.Taking.{payloads_of, IsWhole}
 use Rattle.ic_law.specs.Points.{place_at, IsPrefix}
 use Rattle.ic_law.specs.Hub.{HubLaw}
 

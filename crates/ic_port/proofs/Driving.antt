@@ -11,7 +11,7 @@ use Rattle.ic_law.specs.declared.history.HubReply.TheVariants.{Left}
 use Rattle.ic_law.specs.declared.history.TickNo.{TickNo}
 use Rattle.ic_law.specs.declared.history.LeaveNo.{LeaveNo}
 use Rattle.ic_law.specs.declared.history.Entry.{Entry}
-use Rattle.ic_law.specs.History.{left_by}
+use Rattle.ic_law.specs.Queries.{left_by}
 use Rattle.ic_law.specs.Points.{IsLive}
 use Rattle.ic_law.specs.Asking.{AreEnds}
 use Rattle.ic_hub_laws.proofs.Lives.{live_now}

@@ -8,7 +8,8 @@ use Rattle.ic_law.specs.declared.history.HubAsk.TheVariants.{Begin, Put, Finish,
 use Rattle.ic_law.specs.declared.history.HubReply.{HubReply}
 use Rattle.ic_law.specs.declared.history.HubReply.TheVariants.{Memory}
 use Rattle.ic_law.specs.declared.history.Entry.{Entry}
-use Rattle.ic_law.specs.History.{datagram_in, left_by}
+use Rattle.ic_law.specs.History.{datagram_in}
+use Rattle.ic_law.specs.Queries.{left_by}
 use Rattle.ic_law.specs.Points.{Place, place_at, IsLive}
 use Rattle.ic_law.specs.Asking.{AreEnds}
 use Rattle.ic_law.specs.Emission.{EmissionLaw}

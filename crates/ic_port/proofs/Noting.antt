@@ -18,7 +18,8 @@ use Rattle.ic_law.specs.declared.history.HubReply.TheVariants.{Begun, Gave, Took
 use Rattle.ic_law.specs.declared.history.HubNo.{HubNo}
 use Rattle.ic_law.specs.declared.history.TickNo.{TickNo}
 use Rattle.ic_law.specs.declared.history.Entry.{Entry}
-use Rattle.ic_law.specs.History.{datagram_in, arrived_of, left_by, left_of}
+use Rattle.ic_law.specs.History.{datagram_in, arrived_of}
+use Rattle.ic_law.specs.Queries.{left_by, left_of}
 use Rattle.ic_law.specs.Points.{IsLive}
 use Rattle.ic_law.proofs.Lists.{flat_map-append, Contains-none}
 use Rattle.ic_hub_laws.proofs.Lives.{live_push}

@@ -12,7 +12,8 @@ use Rattle.ic_law.specs.declared.history.TickNo.{TickNo}
 use Rattle.ic_law.specs.declared.history.TickNo.TheVariants as tick
 use Rattle.ic_law.specs.declared.history.LeaveNo.{LeaveNo}
 use Rattle.ic_law.specs.declared.history.Entry.{Entry}
-use Rattle.ic_law.specs.History.{arrived_of, left_of}
+use Rattle.ic_law.specs.History.{arrived_of}
+use Rattle.ic_law.specs.Queries.{left_of}
 use Rattle.ic_hub.specs.Entries.{begin_entry, arrive_entry, tick_entry, leave_entry}
 use Rattle.ic_hub.specs.Calls.{SamePlace}
 use Rattle.ic_law.specs.Logs.{log_of, IsOf}

@@ -16,7 +16,8 @@ use Rattle.ic_law.specs.declared.history.HubAsk.{HubAsk}
 use Rattle.ic_law.specs.declared.history.HubAsk.TheVariants.{Begin, Put, Finish, Take, TakeFrom, Halt, Arrive, Tick, Clear, Leave}
 use Rattle.ic_law.specs.declared.history.HubReply.TheVariants.{Gave, Memory}
 use Rattle.ic_law.specs.declared.history.Entry.{Entry}
-use Rattle.ic_law.specs.History.{takes, parcel_for, parcels_of, payload_in, is_last_parcel, halts, is_halt, IsHaltAsked, stored_by}
+use Rattle.ic_law.specs.Taking.{takes, parcel_for, parcels_of, payload_in, is_last_parcel, halts, is_halt, IsHaltAsked}
+use Rattle.ic_law.specs.Storing.{stored_by}
 use Rattle.ic_law.specs.Receiving.{IsTaking, AnswersHalt, HaltedNow, HaltedAgain, Receives}
 use Rattle.ic_law.proofs.Lists.{Contains-none, list_any-push}
 use Rattle.ic_law.proofs.Readings.{every_none, every_push, fold_every, parcels_of-push, stored_of-push}

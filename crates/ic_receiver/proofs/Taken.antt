@@ -25,7 +25,9 @@ use Rattle.ic_law.specs.declared.history.HubNo.{HubNo}
 use Rattle.ic_law.specs.declared.history.HubNo.TheVariants.{Empty, Ended}
 use Rattle.ic_law.specs.declared.history.Entry.{Entry}
 use Rattle.ic_law.specs.Packets.{RowPacket, answer_datagram}
-use Rattle.ic_law.specs.History.{rows_arrived_of, number_of, takes, parcel_for, parcels_of, payloads_of, whole_of, is_halt, stored_by, stored_of as stored_in, stored_numbers_of}
+use Rattle.ic_law.specs.History.{rows_arrived_of, number_of}
+use Rattle.ic_law.specs.Taking.{takes, parcel_for, parcels_of, payloads_of, whole_of, is_halt}
+use Rattle.ic_law.specs.Storing.{stored_by, stored_of as stored_in, stored_numbers_of}
 use Rattle.ic_law.specs.Points.{IsEnded}
 use Rattle.ic_law.specs.Receiving.{IsRunEnd, consumed_of, IsNext, IsTaken, IsTaking, TakesFrom, AnswersTake, Over, None as NothingNext, Taken, Receives}
 use Rattle.ic_law.proofs.Lists.{Contains-none, Contains-map}

@@ -13,7 +13,9 @@ use Rattle.ic_law.specs.declared.history.DropCause.TheVariants.{Beyond}
 use Rattle.ic_law.specs.declared.history.HubNo.{HubNo}
 use Rattle.ic_law.specs.declared.history.Entry.{Entry}
 use Rattle.ic_law.specs.Packets.{Packet, RowPacket, packet_of, key_of}
-use Rattle.ic_law.specs.History.{rows_in, takes, stores, halts}
+use Rattle.ic_law.specs.History.{rows_in}
+use Rattle.ic_law.specs.Taking.{takes, halts}
+use Rattle.ic_law.specs.Storing.{stores}
 use Rattle.ic_law.specs.Points.{Emits, IsDirected, IsHere, StopsAsked}
 use Rattle.ic_law.specs.Receiving.{handled}
 

@@ -9,7 +9,8 @@ use Rattle.ic_chunk.specs.Counts.{HasCounted, greatest_count}
 use Rattle.ic_recvring.specs.Ring.{Ring, Packet, stored_of}
 use Rattle.ic_law.specs.declared.history.Entry.{Entry}
 use Rattle.ic_law.specs.Packets.{RowPacket}
-use Rattle.ic_law.specs.History.{stored_of as stored_in, stored_numbers_of, payloads_of, whole_of, IsHalted}
+use Rattle.ic_law.specs.Taking.{payloads_of, whole_of, IsHalted}
+use Rattle.ic_law.specs.Storing.{stored_of as stored_in, stored_numbers_of}
 use Rattle.ic_law.specs.Points.{Every, IsEnded}
 use Rattle.ic_law.specs.Receiving.{consumed_of, IsNext, IsTaken, Receives}
 use Rattle.ic_law.specs.Streams.{AreTaken}

@@ -3,7 +3,7 @@ ghost use Rattle.std.specs.Prelude.{◌≡◌, ◌⊎◌, ℕ, ◌↔◌, List, 
 ghost use Rattle.ic_base.specs.Settings.{AreChecked};
 ghost use Rattle.ic_law.specs.declared.history.Entry.{Entry};
 ghost use Rattle.ic_law.specs.declared.history.HubNo.TheVariants as refused;
-ghost use Rattle.ic_law.specs.History.{whole_of};
+ghost use Rattle.ic_law.specs.Taking.{whole_of};
 ghost use Rattle.ic_law.specs.Points.{IsEnded};
 ghost use Rattle.ic_law.specs.Receiving.{IsTaking};
 ghost use Rattle.ic_receiver.specs.Receiving.{Hears, HearsQuery, IsOver, IsEmpty, IsReady, HandsOver, Halts, begun};

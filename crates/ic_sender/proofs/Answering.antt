@@ -21,14 +21,18 @@ use Rattle.ic_law.specs.declared.history.Arrived.TheVariants.{Handled, Dropped}
 use Rattle.ic_law.specs.declared.history.DropCause.TheVariants as cause
 use Rattle.ic_law.specs.declared.history.Entry.{Entry}
 use Rattle.ic_law.specs.Packets.{Packet, packet_of, key_of, goes_forth, row_datagram}
-use Rattle.ic_law.specs.History.{datagrams_of, was_handled, answer_in, greatest, rows_in, rows_emitted_of, hears, is_stop, stop_flags, stopped_of, IsStopped, run_heard, run_told, run_by, consumed_heard, consumed_told, consumed_by, sent_upto}
+use Rattle.ic_law.specs.History.{datagrams_of, greatest, rows_in, rows_emitted_of, sent_upto}
+use Rattle.ic_law.specs.Hearing.{was_handled, answer_in, hears, is_stop, stop_flags, stopped_of, IsStopped, run_heard, run_told, run_by, consumed_heard, consumed_told, consumed_by}
 use Rattle.ic_law.specs.Filling.{Sealed, filling, sealed_of}
 use Rattle.ic_law.specs.Points.{SentUpto}
 use Rattle.ic_law.specs.Sending.{AnswersHeard, Refuses, IsStrayBy, IsStray}
 use Rattle.ic_law.specs.Sending.AnswersHeard.{Unheard, Strayed, Heard}
 use Rattle.ic_law.specs.Numbers.{words_in, words_from, IsIncreasingFrom, last_or}
-use Rattle.ic_law.specs.Emission.{Timer, Timing, timing_of, moved, heard_then, names_its_number, listed_by, listed_then, again_numbers, clock_of, rows_at, numbers_behind, queries_in}
-use Rattle.ic_law.specs.Emission.{is_among as stands_among}
+use Rattle.ic_law.specs.Clock.{clock_of}
+use Rattle.ic_law.specs.Timers.{Timer, Timing, names_its_number, listed_by}
+use Rattle.ic_law.specs.Timing.{timing_of, moved, heard_then, rows_at, numbers_behind}
+use Rattle.ic_law.specs.Emitting.{listed_then, again_numbers, queries_in}
+use Rattle.ic_law.specs.Timers.{is_among as stands_among}
 use Rattle.ic_law.proofs.Lists.{Contains-map, map-append}
 use Rattle.ic_law.proofs.Readings.{run_heard-push, consumed_heard-push, stopped_of-push}
 use Rattle.ic_sender.specs.declared.send_no.SendNo.{SendNo}

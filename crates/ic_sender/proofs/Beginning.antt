@@ -14,10 +14,13 @@ use Rattle.ic_expire.specs.declared.item.Item.{Item}
 use Rattle.ic_window.specs.State.{fresh, fresh_window}
 use Rattle.ic_law.specs.declared.history.Entry.{Entry}
 use Rattle.ic_law.specs.Packets.{RowPacket}
-use Rattle.ic_law.specs.History.{emits, rows_in, rows_emitted_of, hears, is_stop}
+use Rattle.ic_law.specs.History.{emits, rows_in, rows_emitted_of}
+use Rattle.ic_law.specs.Hearing.{hears, is_stop}
 use Rattle.ic_law.specs.Filling.{Sealed, filling, sealed_of}
 use Rattle.ic_law.specs.Points.{SentUpto}
-use Rattle.ic_law.specs.Emission.{Timer, Asked, Timing, timing_of, moved, heard_then, timing_ticked, lost_where, due_numbers, tried, asked_again, clock_of, ticks_by, rows_at}
+use Rattle.ic_law.specs.Clock.{clock_of, ticks_by}
+use Rattle.ic_law.specs.Timers.{Timer, Asked, Timing, timing_ticked, lost_where, due_numbers, tried, asked_again}
+use Rattle.ic_law.specs.Timing.{timing_of, moved, heard_then, rows_at}
 use Rattle.ic_law.proofs.Lists.{Contains-none}
 use Rattle.ic_law.proofs.Readings.{fold_every, every_none}
 use Rattle.ic_law.proofs.Timings.{timing_of-none}

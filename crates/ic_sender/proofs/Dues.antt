@@ -8,7 +8,8 @@ use Rattle.ic_expire.specs.Items.{is_of}
 use Rattle.ic_expire.specs.Queue.{with_item, held_of, dues_of}
 use Rattle.ic_expire.proofs.Holding.{put_holds, due_gives}
 use Rattle.ic_law.specs.Numbers.{IsIncreasingFrom}
-use Rattle.ic_law.specs.Emission.{Timer, is_due, due_numbers, numbers_behind, wait_in}
+use Rattle.ic_law.specs.Timers.{Timer, is_due, due_numbers, wait_in}
+use Rattle.ic_law.specs.Timing.{numbers_behind}
 use Rattle.ic_law.proofs.Lists.{Contains-none, Contains-head, Contains-tail, head_or_tail, Contains-map, map-Contains}
 use Rattle.ic_sender.specs.declared.flight.Flight.{Flight}
 use Rattle.ic_sender.specs.Sending.{Sending, flight_at, tries_of, waits_longer}

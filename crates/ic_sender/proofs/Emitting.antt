@@ -18,10 +18,15 @@ use Rattle.ic_window.specs.declared.round_trip.RoundTrip.{RoundTrip}
 use Rattle.ic_window.proofs.Growth.{waits_rise}
 use Rattle.ic_law.specs.declared.history.Entry.{Entry}
 use Rattle.ic_law.specs.Packets.{RowPacket, row_datagram}
-use Rattle.ic_law.specs.History.{emits, emitted_of, rows_in, rows_emitted_of, number_of, sent_upto, stopped_of, run_heard, consumed_heard}
+use Rattle.ic_law.specs.History.{emits, emitted_of, rows_in, rows_emitted_of, number_of, sent_upto}
+use Rattle.ic_law.specs.Hearing.{stopped_of, run_heard, consumed_heard}
 use Rattle.ic_law.specs.Filling.{Sealed, sealed_of}
 use Rattle.ic_law.specs.Points.{SentUpto}
-use Rattle.ic_law.specs.Emission.{Timer, Asked, Timing, timing_of, settled, fresh_timer, moved, clock_of, wait_in, row_at, rows_at, numbers_behind, standing, rows_then, again_numbers, IsSoon}
+use Rattle.ic_law.specs.Clock.{clock_of}
+use Rattle.ic_law.specs.Timers.{Timer, Asked, Timing, wait_in}
+use Rattle.ic_law.specs.Timing.{timing_of, settled, fresh_timer, moved, row_at, rows_at, numbers_behind, standing}
+use Rattle.ic_law.specs.Emitting.{rows_then, again_numbers}
+use Rattle.ic_law.specs.Armed.{IsSoon}
 use Rattle.ic_law.proofs.Lists.{Contains-none, Contains-head, Contains-tail, head_or_tail, map-append, Contains-map}
 use Rattle.ic_law.proofs.Readings.{emitted_of-push, rows_emitted_of-push}
 use Rattle.ic_law.proofs.Timings.{timing_of-push}

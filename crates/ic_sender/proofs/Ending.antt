@@ -14,7 +14,8 @@ use Rattle.ic_expire.specs.declared.item.Item.{Item}
 use Rattle.ic_expire.specs.Queue.{Queue, IsHeld}
 use Rattle.ic_window.specs.State.{WindowState}
 use Rattle.ic_law.specs.Packets.{RowPacket}
-use Rattle.ic_law.specs.Emission as law
+use Rattle.ic_law.specs.Timers as law
+use Rattle.ic_law.specs.Timing as timing
 use Rattle.ic_sender.specs.declared.flight.Flight.{Flight}
 use Rattle.ic_sender.specs.declared.numbers.Numbers.{Numbers}
 use Rattle.ic_sender.specs.declared.planning.Plan.{Plan}
@@ -75,7 +76,7 @@ pub few_joined : (retries : ℕ) (m : Sending) (p : Plan) (now : ℕ) (before af
 few_joined retries m p now before after plans few is =
     subst (FewTries retries) (sym is) (all_both (λ (f : Flight). f.tries ≤ retries) before p.flights.items few (subst (FewTries retries) (sym plans.flights) (few_going retries m.end now (rows_next m))))
 
-asks_by : (retries now : ℕ) (w : WindowState) (b d : Bool) (o : Option law.Asked) → AsksFew retries o → AsksFew retries (cond b None (cond d (law.standing now w o) o))
+asks_by : (retries now : ℕ) (w : WindowState) (b d : Bool) (o : Option law.Asked) → AsksFew retries o → AsksFew retries (cond b None (cond d (timing.standing now w o) o))
 asks_by retries now w true d o few = tt
 asks_by retries now w false true None few = omega arith
 asks_by retries now w false true (Some a) few = few
@@ -102,9 +103,9 @@ row_sealed ring payload last sealed same =
 
 -- ---- what an answer leaves
 
-rows_freed : (kept : List RowPacket) (run sent k : ℕ) → run ≤ sent → rows_kept (filter (λ (x : RowPacket). nat_lt run x.seq) kept) (law.numbers_behind sent k) ≡ rows_kept kept (law.numbers_behind sent k)
+rows_freed : (kept : List RowPacket) (run sent k : ℕ) → run ≤ sent → rows_kept (filter (λ (x : RowPacket). nat_lt run x.seq) kept) (timing.numbers_behind sent k) ≡ rows_kept kept (timing.numbers_behind sent k)
 rows_freed kept run sent k le =
-    joined_same (λ n. row_of (kept_at (filter (λ (x : RowPacket). nat_lt run x.seq) kept) n)) (λ n. row_of (kept_at kept n)) (law.numbers_behind sent k)
+    joined_same (λ n. row_of (kept_at (filter (λ (x : RowPacket). nat_lt run x.seq) kept) n)) (λ n. row_of (kept_at kept n)) (timing.numbers_behind sent k)
     (λ n at. let w = in_behind sent k n at in ap row_of (find_filter (λ (x : RowPacket). x.seq) (nat_lt run) kept n (lt_yes run n (omega (arith, w.0, le)))))
 
 -- what is freed doesn't go out

@@ -6,11 +6,14 @@ use Rattle.std.proofs.lemmas.List.Elements.{Contains-append_cases}
 use Rattle.ic_expire.specs.declared.item.Item.{Item}
 use Rattle.ic_law.specs.declared.history.Entry.{Entry}
 use Rattle.ic_law.specs.Packets.{row_datagram}
-use Rattle.ic_law.specs.History.{emits, rows_in, hears, is_stop, stopped_of}
+use Rattle.ic_law.specs.History.{emits, rows_in}
+use Rattle.ic_law.specs.Hearing.{hears, is_stop, stopped_of}
 use Rattle.ic_law.specs.Filling.{sealed_of}
 use Rattle.ic_law.specs.Points.{Every, IsHere}
 use Rattle.ic_law.specs.Sending.{Refuses}
-use Rattle.ic_law.specs.Emission.{timing_of, moved, clock_of, rows_at, numbers_behind, again_numbers, ticks_by, queries_in}
+use Rattle.ic_law.specs.Clock.{clock_of, ticks_by}
+use Rattle.ic_law.specs.Timing.{timing_of, moved, rows_at, numbers_behind}
+use Rattle.ic_law.specs.Emitting.{again_numbers, queries_in}
 use Rattle.ic_law.proofs.Readings.{stopped_of-push}
 use Rattle.ic_sender.specs.Sending.{Sending, count_next, rows_next, emitting, waits_next}
 use Rattle.ic_sender.specs.Entries.{IsNothingOf}

@@ -19,10 +19,14 @@ use Rattle.ic_law.specs.declared.history.HubReply.TheVariants.{Came}
 use Rattle.ic_law.specs.declared.history.Arrived.TheVariants.{Handled}
 use Rattle.ic_law.specs.declared.history.Entry.{Entry}
 use Rattle.ic_law.specs.Packets.{Packet, packet_of, key_of, goes_forth}
-use Rattle.ic_law.specs.History.{number_of, hears, answer_read, is_stop, run_heard, run_told, consumed_told}
+use Rattle.ic_law.specs.History.{number_of}
+use Rattle.ic_law.specs.Hearing.{hears, answer_read, is_stop, run_heard, run_told, consumed_told}
 use Rattle.ic_law.specs.Filling.{Sealed}
-use Rattle.ic_law.specs.Emission.{Timer, Asked, Timing, timing_heard, names_its_number, listed_by, asked_later, clock_of, numbers_behind, IsSoon}
-use Rattle.ic_law.specs.Emission.{named as named_in, marked as marked_in, is_among as stands_among, sample_by as sample_in, lost_where, timer_of}
+use Rattle.ic_law.specs.Clock.{clock_of}
+use Rattle.ic_law.specs.Timers.{Timer, Asked, Timing, timing_heard, names_its_number, listed_by, asked_later}
+use Rattle.ic_law.specs.Timing.{numbers_behind}
+use Rattle.ic_law.specs.Armed.{IsSoon}
+use Rattle.ic_law.specs.Timers.{named as named_in, marked as marked_in, is_among as stands_among, sample_by as sample_in, lost_where, timer_of}
 use Rattle.ic_law.proofs.Lists.{Contains-none, Contains-map, head_or_tail}
 use Rattle.ic_sender.specs.declared.flight.Flight.{Flight}
 use Rattle.ic_sender.specs.Sending.{Sending, Answer, row_of, run_with, freed_window, is_it, is_among, named, marked, copies, lost_with, hearing, flight_at, sample_by}

@@ -7,10 +7,15 @@ use Rattle.ic_expire.specs.declared.item.Item.{Item}
 use Rattle.ic_expire.specs.Queue.{held_of}
 use Rattle.ic_window.specs.Window.{room_of}
 use Rattle.ic_law.specs.declared.history.Entry.{Entry}
-use Rattle.ic_law.specs.History.{rows_emitted_of, number_of, sent_upto, finished_of, stopped_of}
+use Rattle.ic_law.specs.History.{rows_emitted_of, number_of, sent_upto}
+use Rattle.ic_law.specs.Putting.{finished_of}
+use Rattle.ic_law.specs.Hearing.{stopped_of}
 use Rattle.ic_law.specs.Filling.{Sealed, plain, final, filling_of, sealed, sealed_of}
 use Rattle.ic_law.specs.Points.{IsAcknowledged}
-use Rattle.ic_law.specs.Emission.{Timer, Asked, Timing, timing_of, clock_of, standing, IsArmed}
+use Rattle.ic_law.specs.Clock.{clock_of}
+use Rattle.ic_law.specs.Timers.{Timer, Asked, Timing}
+use Rattle.ic_law.specs.Timing.{timing_of, standing}
+use Rattle.ic_law.specs.Armed.{IsArmed}
 use Rattle.ic_law.proofs.Lists.{Contains-none, head_or_tail, Contains-map, map-Contains}
 use Rattle.ic_sender.specs.declared.flight.Flight.{Flight}
 use Rattle.ic_sender.specs.Sending.{Sending, capacity}

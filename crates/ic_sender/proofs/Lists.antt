@@ -4,7 +4,7 @@ use Rattle.std.specs.Prelude.{nat_lt, filter, find}
 use Rattle.std.specs.List.{flat_map, Contains}
 use Rattle.std.proofs.lemmas.Bool.{leb-true, leb-false, le-leb, eqb-true, cases_lt}
 use Rattle.std.proofs.lemmas.Bool.Decides.{Decides-eqb}
-use Rattle.ic_law.specs.Emission.{numbers_behind}
+use Rattle.ic_law.specs.Timing.{numbers_behind}
 use Rattle.ic_law.proofs.Lists.{Contains-none, Contains-head, Contains-tail, head_or_tail, Contains-map}
 
 -- ---- numbers behind a number

@@ -11,7 +11,9 @@ use Rattle.ic_expire.specs.Items.{is_due, is_upto}
 use Rattle.ic_expire.specs.Queue.{Queue, IsHeld, IsQueue, with_item, without, dues_of}
 use Rattle.ic_expire.proofs.Holding.{due_takes}
 use Rattle.ic_law.specs.Packets.{RowPacket}
-use Rattle.ic_law.specs.Emission.{last_tick, numbers_behind, wait_in}
+use Rattle.ic_law.specs.Clock.{last_tick}
+use Rattle.ic_law.specs.Timers.{wait_in}
+use Rattle.ic_law.specs.Timing.{numbers_behind}
 use Rattle.ic_law.specs.Numbers.{IsIncreasingFrom, last_or}
 use Rattle.ic_law.proofs.Lists.{Contains-none, Contains-one, Contains-head, Contains-tail, head_or_tail, map-Contains}
 use Rattle.ic_sender.specs.declared.send_no.SendNo.{SendNo}

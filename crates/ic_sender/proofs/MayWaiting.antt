@@ -10,7 +10,7 @@ use Rattle.ic_expire.specs.Queue.{Queue, IsHeld, with_item, without}
 use Rattle.ic_expire.proofs.Holding.{put_holds, rest_holds}
 use Rattle.ic_law.specs.Packets.{RowPacket}
 use Rattle.ic_law.specs.Numbers.{IsIncreasingFrom}
-use Rattle.ic_law.specs.Emission.{numbers_behind}
+use Rattle.ic_law.specs.Timing.{numbers_behind}
 use Rattle.ic_law.proofs.Lists.{Contains-head, Contains-tail}
 use Rattle.ic_sender.specs.declared.flight.Flight.{Flight}
 use Rattle.ic_sender.specs.Sending.{row_of, kept_at, rows_kept, flight_of}

@@ -12,8 +12,9 @@ use Rattle.ic_window.specs.State.{WindowState, by_flow, grown, lost, sampled}
 use Rattle.ic_window.specs.Window.{times, wider, halved}
 use Rattle.ic_law.specs.Packets.{row_datagram}
 use Rattle.ic_law.specs.Filling.{Sealed}
-use Rattle.ic_law.specs.Emission.{Timer, row_at, rows_at, timer_of, lost_where}
-use Rattle.ic_law.specs.Emission.{sample_by as sample_in, is_among as stands_among}
+use Rattle.ic_law.specs.Timers.{Timer, timer_of, lost_where}
+use Rattle.ic_law.specs.Timing.{row_at, rows_at}
+use Rattle.ic_law.specs.Timers.{sample_by as sample_in, is_among as stands_among}
 use Rattle.ic_law.proofs.Lists.{Contains-head, Contains-tail, map-append}
 use Rattle.ic_sender.specs.declared.flight.Flight.{Flight}
 use Rattle.ic_sender.specs.Sending.{sample_by, flight_at, copy_of, copies, lost_with}

@@ -14,11 +14,18 @@ use Rattle.ic_law.specs.declared.history.Entry.{Entry}
 use Rattle.ic_law.specs.declared.history.HubAsk.{HubAsk}
 use Rattle.ic_law.specs.declared.history.HubReply.{HubReply}
 use Rattle.ic_law.specs.Packets.{RowPacket, row_datagram}
-use Rattle.ic_law.specs.History.{emits, emitted_of, rows_in, rows_emitted_of, number_of, sent_upto, puts, chunks_put_of, finishes, finished_of, hears, stopped_of, run_heard, consumed_heard, run_told, consumed_told, greatest, is_stop}
+use Rattle.ic_law.specs.History.{emits, emitted_of, rows_in, rows_emitted_of, number_of, sent_upto, greatest}
+use Rattle.ic_law.specs.Putting.{puts, chunks_put_of, finishes, finished_of}
+use Rattle.ic_law.specs.Hearing.{hears, stopped_of, run_heard, consumed_heard, run_told, consumed_told, is_stop}
 use Rattle.ic_law.specs.Filling.{Sealed, filling, sealed, sealed_of}
 use Rattle.ic_law.specs.Points.{Every, SameAgain, Sends, SentUpto, IsHere}
 use Rattle.ic_law.specs.Sending.{Refuses}
-use Rattle.ic_law.specs.Emission.{Asked, Timing, timing_of, settled, timing_ticked, emitted_numbers, has_no_try, heard_then, moved, clock_of, wait_in, last_tick, ticks_by, ticks_of, rows_at, numbers_behind, rows_then, again_numbers, listed_then, due_numbers, queries_in, queries_then, query_due, spent_query, NoneSpent, EmitsDue}
+use Rattle.ic_law.specs.Clock.{clock_of, last_tick, ticks_by, ticks_of}
+use Rattle.ic_law.specs.Timers.{Asked, Timing, timing_ticked, wait_in, due_numbers}
+use Rattle.ic_law.specs.Timing.{timing_of, settled, heard_then, moved, rows_at, numbers_behind}
+use Rattle.ic_law.specs.Emitting.{emitted_numbers, rows_then, again_numbers, listed_then, queries_in, queries_then, query_due}
+use Rattle.ic_law.specs.Spending.{has_no_try, spent_query, NoneSpent}
+use Rattle.ic_law.specs.Emission.{EmitsDue}
 use Rattle.ic_law.proofs.Lists.{Contains-none, flat_map-Contains, Contains-head}
 use Rattle.ic_law.proofs.Readings.{every_push, emitted_of-push, rows_emitted_of-push, chunks_put_of-push, finished_of-push, stopped_of-push, run_heard-push, consumed_heard-push}
 use Rattle.ic_law.proofs.Timings.{timing_of-push, ticks_of-push}

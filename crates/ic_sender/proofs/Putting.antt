@@ -21,12 +21,17 @@ use Rattle.ic_law.specs.declared.history.HubReply.TheVariants.{Gave, Memory}
 use Rattle.ic_law.specs.declared.history.HubNo.TheVariants as no
 use Rattle.ic_law.specs.declared.history.Entry.{Entry}
 use Rattle.ic_law.specs.Packets.{RowPacket, row_datagram}
-use Rattle.ic_law.specs.History.{emits, rows_in, rows_emitted_of, number_of, puts, chunks_put_of, finished_of, hears, was_given, IsStopped, run_heard}
+use Rattle.ic_law.specs.History.{emits, rows_in, rows_emitted_of, number_of}
+use Rattle.ic_law.specs.Putting.{puts, chunks_put_of, finished_of, was_given}
+use Rattle.ic_law.specs.Hearing.{hears, IsStopped, run_heard}
 use Rattle.ic_law.specs.Filling.{Sealed, plain, final, Filling, fits, filling, filling_of, sealed, sealed_of, kept_of}
 use Rattle.ic_law.specs.Points.{Every, SentUpto}
 use Rattle.ic_law.specs.Sending.{AnswersPut, Refuses, Fits}
 use Rattle.ic_law.specs.Sending.AnswersPut.{Given, Full, TooLong, Stopped}
-use Rattle.ic_law.specs.Emission.{Timing, timing_of, moved, clock_of, row_at, numbers_behind, ticks_by, queries_in}
+use Rattle.ic_law.specs.Clock.{clock_of, ticks_by}
+use Rattle.ic_law.specs.Timers.{Timing}
+use Rattle.ic_law.specs.Timing.{timing_of, moved, row_at, numbers_behind}
+use Rattle.ic_law.specs.Emitting.{queries_in}
 use Rattle.ic_law.proofs.Lists.{map-append}
 use Rattle.ic_law.proofs.Packing.{filling-push}
 use Rattle.ic_law.proofs.Readings.{chunks_put_of-push, finished_of-push}

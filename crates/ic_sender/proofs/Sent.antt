@@ -7,7 +7,7 @@ use Rattle.ic_law.specs.Packets.{RowPacket}
 use Rattle.ic_law.specs.History.{number_of, greatest}
 use Rattle.ic_law.specs.Filling.{Sealed, plain, filling, sealed}
 use Rattle.ic_law.specs.Points.{Fills, SentUpto}
-use Rattle.ic_law.specs.Emission.{row_at, rows_at, numbers_behind}
+use Rattle.ic_law.specs.Timing.{row_at, rows_at, numbers_behind}
 use Rattle.ic_law.proofs.Lists.{Contains-none, Contains-one, Contains-head, Contains-tail, head_or_tail, cut_at, Contains-map, map-Contains, flat_map-append}
 use Rattle.ic_law.proofs.Packing.{chunks_of-filling}
 use Rattle.ic_chunk.specs.Assembly.{together}

@@ -20,13 +20,20 @@ use Rattle.ic_law.specs.declared.history.HubAsk.TheVariants.{Put, Finish, Arrive
 use Rattle.ic_law.specs.declared.history.HubReply.TheVariants.{Ticked}
 use Rattle.ic_law.specs.declared.history.Entry.{Entry}
 use Rattle.ic_law.specs.Packets.{RowPacket, row_datagram, query_datagram}
-use Rattle.ic_law.specs.History.{rows_in, rows_emitted_of, hears, stopped_of, sent_upto}
+use Rattle.ic_law.specs.History.{rows_in, rows_emitted_of, sent_upto}
+use Rattle.ic_law.specs.Hearing.{hears, stopped_of}
 use Rattle.ic_law.specs.Filling.{Sealed, filling, sealed_of}
 use Rattle.ic_law.specs.Numbers.{IsIncreasingFrom}
 use Rattle.ic_law.specs.Points.{Every, SentUpto}
 use Rattle.ic_law.specs.Sending.{Refuses}
-use Rattle.ic_law.specs.Emission.{Timer, Asked, Timing, timing_of, timing_ticked, lost_where, is_due, due_numbers, asked_again, clock_of, last_tick, ticks_of, wait_in, standing, rows_at, again_numbers, queries_in, queries_then, query_due, has_no_try, spent_timers, spent_query, NoneSpent, EmitsDue, IsSoon}
-use Rattle.ic_law.specs.Emission.{tried as tried_in, is_among as stands_among}
+use Rattle.ic_law.specs.Clock.{clock_of, last_tick, ticks_of}
+use Rattle.ic_law.specs.Timers.{Timer, Asked, Timing, timing_ticked, lost_where, is_due, due_numbers, asked_again, wait_in}
+use Rattle.ic_law.specs.Timing.{timing_of, standing, rows_at}
+use Rattle.ic_law.specs.Emitting.{again_numbers, queries_in, queries_then, query_due}
+use Rattle.ic_law.specs.Spending.{has_no_try, spent_timers, spent_query, NoneSpent}
+use Rattle.ic_law.specs.Emission.{EmitsDue}
+use Rattle.ic_law.specs.Armed.{IsSoon}
+use Rattle.ic_law.specs.Timers.{tried as tried_in, is_among as stands_among}
 use Rattle.ic_law.proofs.Lists.{Contains-none, Contains-one, Contains-head, Contains-tail, head_or_tail, Contains-map, map-Contains, flat_map-append}
 use Rattle.ic_law.proofs.Readings.{stopped_of-push}
 use Rattle.ic_law.proofs.Timings.{ticks_of-push}

@@ -7,7 +7,9 @@ use Rattle.ic_expire.specs.Items.{is_upto}
 use Rattle.ic_expire.specs.Queue.{Queue, IsHeld, without}
 use Rattle.ic_law.specs.Packets.{query_datagram}
 use Rattle.ic_law.specs.Numbers.{words_in, IsIncreasingFrom, last_or}
-use Rattle.ic_law.specs.Emission.{Asked, last_tick, query_due}
+use Rattle.ic_law.specs.Clock.{last_tick}
+use Rattle.ic_law.specs.Timers.{Asked}
+use Rattle.ic_law.specs.Emitting.{query_due}
 use Rattle.ic_sender.specs.declared.send_no.SendNo.{SendNo}
 use Rattle.ic_sender.specs.declared.send_no.SendNo.TheVariants as refused
 use Rattle.ic_sender.specs.Sending.{Sending, Answer, fits_opened, emitting, datagrams_next, waits_next, run_with, hearing, datagrams_again, spent_of, copies}

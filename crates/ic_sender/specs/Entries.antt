@@ -17,10 +17,13 @@ use Rattle.ic_law.specs.declared.history.DropCause.TheVariants as cause
 use Rattle.ic_law.specs.declared.history.HubNo.TheVariants as no
 use Rattle.ic_law.specs.declared.history.Entry.{Entry}
 use Rattle.ic_law.specs.Packets.{Packet, packet_of, key_of, goes_forth}
-use Rattle.ic_law.specs.History.{emits, rows_in, puts, finishes, hears}
+use Rattle.ic_law.specs.History.{emits, rows_in}
+use Rattle.ic_law.specs.Putting.{puts, finishes}
+use Rattle.ic_law.specs.Hearing.{hears}
 use Rattle.ic_law.specs.Numbers.{IsIncreasingFrom}
 use Rattle.ic_law.specs.Points.{IsDirected, IsHere}
-use Rattle.ic_law.specs.Emission.{ticks_by, queries_in, query_due}
+use Rattle.ic_law.specs.Clock.{ticks_by}
+use Rattle.ic_law.specs.Emitting.{queries_in, query_due}
 use Rattle.ic_sender.specs.declared.send_no.SendNo.{SendNo}
 use Rattle.ic_sender.specs.declared.send_no.SendNo.TheVariants as refused
 use Rattle.ic_sender.specs.Sending.{Sending, spent_of, trying, waits_longer, querying, copies}

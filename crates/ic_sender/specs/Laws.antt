@@ -8,7 +8,8 @@ use Rattle.ic_expire.specs.declared.item.Item.{Item}
 use Rattle.ic_expire.specs.Queue.{held_of}
 use Rattle.ic_law.specs.declared.history.Entry.{Entry}
 use Rattle.ic_law.specs.Points.{Every}
-use Rattle.ic_law.specs.Emission.{clock_of, IsArmed}
+use Rattle.ic_law.specs.Clock.{clock_of}
+use Rattle.ic_law.specs.Armed.{IsArmed}
 use Rattle.ic_sender.specs.Sending.{Sending, begun}
 use Rattle.ic_sender.specs.Entries.{IsSilent, IsTicking, Ticks}
 use Rattle.ic_sender.specs.Standing.{IsNamed, IsUntouched, KeepsSending, Stands, HoldsNone, IsOver, IsOverIn, dues_held, query_at}

@@ -12,11 +12,17 @@ use Rattle.ic_expire.specs.declared.item.Item.{Item}
 use Rattle.ic_expire.specs.Queue.{held_of}
 use Rattle.ic_law.specs.declared.history.Entry.{Entry}
 use Rattle.ic_law.specs.Packets.{RowPacket, IsSegment, row_datagram}
-use Rattle.ic_law.specs.History.{emitted_of, rows_in, rows_emitted_of, number_of, finished_of, stopped_of, run_heard, consumed_heard, IsStopped}
+use Rattle.ic_law.specs.History.{emitted_of, rows_in, rows_emitted_of, number_of}
+use Rattle.ic_law.specs.Putting.{finished_of}
+use Rattle.ic_law.specs.Hearing.{stopped_of, run_heard, consumed_heard, IsStopped}
 use Rattle.ic_law.specs.Filling.{Sealed, filling_of, sealed_of}
 use Rattle.ic_law.specs.Points.{Every, SameAgain, SentUpto, Sends, IsHere, IsAcknowledged}
 use Rattle.ic_law.specs.Sending.{Refuses}
-use Rattle.ic_law.specs.Emission.{Timer, Asked, Timing, timing_of, clock_of, row_at, numbers_behind, EmitsDue, IsSoon}
+use Rattle.ic_law.specs.Clock.{clock_of}
+use Rattle.ic_law.specs.Timers.{Timer, Asked, Timing}
+use Rattle.ic_law.specs.Timing.{timing_of, row_at, numbers_behind}
+use Rattle.ic_law.specs.Emission.{EmitsDue}
+use Rattle.ic_law.specs.Armed.{IsSoon}
 use Rattle.ic_sender.specs.declared.flight.Flight.{Flight}
 use Rattle.ic_sender.specs.Sending.{Sending, row_of, kept_at, count_next, asked_next}
 use Rattle.ic_sender.specs.Entries.{IsBefore}

@@ -14,7 +14,8 @@ use Rattle.ic_sender.specs.Sending.{Answer, flight_of, rows_kept}
 use Rattle.ic_expire.specs.Queue.{Queue, IsHeld}
 use Rattle.ic_law.specs.Packets.{RowPacket}
 use Rattle.ic_law.specs.Numbers.{IsIncreasingFrom}
-use Rattle.ic_law.specs.Emission as law
+use Rattle.ic_law.specs.Timers as law
+use Rattle.ic_law.specs.Timing as timing
 use Rattle.ic_sendring.specs.Ring.{Ring, Kept, Packet}
 use Rattle.ic_sender.specs.declared.flight.Flight.{Flight}
 use Rattle.ic_sender.specs.declared.numbers.Asked.{Asked}
@@ -60,12 +61,12 @@ count_of n w depth = min (n.sealed - n.sent) (room_of w.window (n.sent - n.acked
 
 abbrev pub asked_then : Numbers → ℕ → WindowState → ℕ → Option law.Asked → ℕ → Option law.Asked
 asked_then n sent w depth asked now =
-    if nat_lt 0 (depth - (sent - n.consumed)) then None else (if nat_le sent n.acked && nat_lt sent n.sealed then law.standing now w asked else asked)
+    if nat_lt 0 (depth - (sent - n.consumed)) then None else (if nat_le sent n.acked && nat_lt sent n.sealed then timing.standing now w asked else asked)
 
 -- the plan is of these packets, numbers and window
 pub record Plans (end : ConnEnd) (kept : List RowPacket) (n : Numbers) (w : WindowState) (depth : ℕ) (asked : Option law.Asked) (now : ℕ) (p : Plan) : Type 0 where
   pub count : p.count ≡ count_of n w depth
-  pub flights : p.flights.items ≡ map (flight_of end now) (rows_kept kept (law.numbers_behind n.sent (count_of n w depth)))
+  pub flights : p.flights.items ≡ map (flight_of end now) (rows_kept kept (timing.numbers_behind n.sent (count_of n w depth)))
   pub asks : option_map asked_of p.asked ≡ asked_then n (n.sent + count_of n w depth) w depth asked now
   pub due : p.due ≡ now + law.wait_in w 0
 

@@ -2,7 +2,9 @@
 ghost use Rattle.std.specs.Prelude.{◌≡◌, ◌+◌, ◌-◌, ◌≤◌, ◌<◌, min, nat_le, nat_lt, ◌&&◌, if◌then◌else◌, None, Some, IfSome};
 ghost use Rattle.std.specs.Option.{option_map};
 ghost use Rattle.ic_window.specs.Window.{room_of};
-ghost use Rattle.ic_law.specs.Emission.{standing, asked_later, asked_again, last_tick};
+ghost use Rattle.ic_law.specs.Clock.{last_tick};
+ghost use Rattle.ic_law.specs.Timers.{asked_later, asked_again};
+ghost use Rattle.ic_law.specs.Timing.{standing};
 ghost use Rattle.ic_sender.specs.Views.{asked_of};
 
 use ic_window::Window;
@@ -83,7 +85,7 @@ impl Numbers {
 }
 
 /// The query that stands, or a new one.
-#[tactic(auto, unfolding(ic_law::specs::Emission::last_tick))]
+#[tactic(auto, unfolding(ic_law::specs::Clock::last_tick))]
 fn standing(window: &Window, asked: Option<Asked>, now: u64) -> Asked
     requires { now ≤ last_tick }
     ensures { standing now window.now (option_map asked_of asked) ≡ Some (asked_of result) }
@@ -98,7 +100,7 @@ fn standing(window: &Window, asked: Option<Asked>, now: u64) -> Asked
 }
 
 /// An answer moves a query that stands.
-#[tactic(auto, unfolding(ic_law::specs::Emission::last_tick))]
+#[tactic(auto, unfolding(ic_law::specs::Clock::last_tick))]
 pub(crate) fn later(window: &Window, asked: Option<Asked>, now: u64) -> Option<Asked>
     requires { now ≤ last_tick }
     ensures { option_map asked_of result ≡ option_map (asked_later now window.now) (option_map asked_of asked) }
@@ -113,7 +115,7 @@ pub(crate) fn later(window: &Window, asked: Option<Asked>, now: u64) -> Option<A
 }
 
 /// A status query that is due is emitted, and is due again after a longer time.
-#[tactic(auto, unfolding(ic_law::specs::Emission::last_tick))]
+#[tactic(auto, unfolding(ic_law::specs::Clock::last_tick))]
 pub(crate) fn again(window: &Window, asked: Option<Asked>, now: u64) -> Option<Asked>
     requires now { now ≤ last_tick }
     requires tries { IfSome asked (λ a. a.tries ≤ 1000) }

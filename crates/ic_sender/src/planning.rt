@@ -2,7 +2,8 @@
 ghost use Rattle.std.specs.Prelude.{◌≡◌, ℕ, ◌+◌, ◌-◌, ◌<◌, ◌≤◌, [], ◌∷◌, ◌++◌, map, length, IfOk, IfSome, OnOk};
 ghost use Rattle.std.specs.Option.{option_map};
 ghost use Rattle.ic_sendring.specs.Ring.{IsRing};
-ghost use Rattle.ic_law.specs.Emission.{last_tick, numbers_behind};
+ghost use Rattle.ic_law.specs.Clock.{last_tick};
+ghost use Rattle.ic_law.specs.Timing.{numbers_behind};
 ghost use Rattle.ic_sender.specs.Sending.{row_of, kept_at, rows_kept, flight_of};
 ghost use Rattle.ic_sender.specs.Views.{asked_of, with_newest, newest_of, one_of, Plans};
 
@@ -118,7 +119,7 @@ pub(crate) struct Plan {
 
 /// Plans the end of an event, for a connection as the event makes it: emits what there is room for. The one place
 /// where that is decided. Adds the datagrams that go out.
-#[tactic(auto, unfolding(ic_law::specs::Emission::last_tick))]
+#[tactic(auto, unfolding(ic_law::specs::Clock::last_tick))]
 pub(crate) fn plan_end(
     alloc: Global,
     end: &ConnEnd,

@@ -4,7 +4,9 @@ ghost use Rattle.std.specs.Option.{option_map};
 ghost use Rattle.std.specs.List.{AllByRecursion, list_any};
 ghost use Rattle.ic_expire.specs.Queue.{IsHeld};
 ghost use Rattle.ic_law.specs.Numbers.{IsIncreasingFrom};
-ghost use Rattle.ic_law.specs.Emission.{last_tick, lost_where, query_due};
+ghost use Rattle.ic_law.specs.Clock.{last_tick};
+ghost use Rattle.ic_law.specs.Timers.{lost_where};
+ghost use Rattle.ic_law.specs.Emitting.{query_due};
 ghost use Rattle.ic_sender.specs.Sending.{Sending, spent_of, tried, trying, waits_longer, querying, copies};
 ghost use Rattle.ic_sender.specs.Calls.{Tries, Queries, IsNow, LeavesRoom, is_unanswered};
 

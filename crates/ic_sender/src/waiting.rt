@@ -1,7 +1,8 @@
 // What waits in the queue of a query.
 ghost use Rattle.std.specs.Prelude.{◌≡◌, ℕ, ◌+◌, ◌<◌, ◌≤◌, map, length, if◌then◌else◌};
 ghost use Rattle.std.specs.List.{AllByRecursion};
-ghost use Rattle.ic_law.specs.Emission.{last_tick, wait_in};
+ghost use Rattle.ic_law.specs.Clock.{last_tick};
+ghost use Rattle.ic_law.specs.Timers.{wait_in};
 ghost use Rattle.ic_sender.specs.Sending.{waiting, later_waits, tries_of, flight_at};
 ghost use Rattle.ic_sender.specs.Calls.{IsNow};
 ghost use Rattle.ic_sender.specs.Views.{MayWait};
@@ -35,7 +36,7 @@ fn tries_at(flights: &[Flight], seq: u32) -> u32
 }
 
 /// These packets wait longer than before, each by its tries.
-#[tactic(auto, unfolding(ic_law::specs::Emission::last_tick))]
+#[tactic(auto, unfolding(ic_law::specs::Clock::last_tick))]
 pub(crate) fn wait_longer(
     expiry: &mut Expiry,
     conn: u32,

@@ -12,8 +12,9 @@ use Rattle.ic_expire.specs.Queue.{Queue}
 use Rattle.ic_law.specs.declared.history.HubReply.{HubReply}
 use Rattle.ic_law.specs.declared.history.Entry.{Entry}
 use Rattle.ic_law.specs.Packets.{row_datagram}
-use Rattle.ic_law.specs.History.{datagrams_of, emits, rows_in, rows_emitted_of, puts, chunks_put_of}
-use Rattle.ic_law.specs.Emission.{query_due}
+use Rattle.ic_law.specs.History.{datagrams_of, emits, rows_in, rows_emitted_of}
+use Rattle.ic_law.specs.Putting.{puts, chunks_put_of}
+use Rattle.ic_law.specs.Emitting.{query_due}
 use Rattle.ic_law.proofs.Lists.{Contains-none, Contains-head, Contains-tail, Contains-map, map-Contains, flat_map-append}
 use Rattle.ic_law.proofs.Readings.{chunks_put_of-push, rows_emitted_of-push}
 use Rattle.ic_sender.specs.declared.flight.Flight.{Flight}

@@ -12,7 +12,9 @@ use Rattle.ic_expire.specs.declared.item.Item.{Item}
 use Rattle.ic_law.specs.declared.history.Entry.{Entry}
 use Rattle.ic_law.specs.Packets.{RowPacket, header_for, rows_flags, goes_forth, row_datagram, query_datagram}
 use Rattle.ic_law.specs.Filling.{Sealed, sealed_of}
-use Rattle.ic_law.specs.Emission.{timing_of, clock_of, row_at, query_due}
+use Rattle.ic_law.specs.Clock.{clock_of}
+use Rattle.ic_law.specs.Timing.{timing_of, row_at}
+use Rattle.ic_law.specs.Emitting.{query_due}
 use Rattle.ic_law.proofs.Making.{row_heads, row_reads, query_heads, query_reads}
 use Rattle.ic_law.proofs.Lists.{Contains-none, Contains-one, Contains-map}
 use Rattle.ic_sender.specs.declared.flight.Flight.{Flight}

@@ -21,8 +21,9 @@ use Rattle.ic_law.specs.declared.history.HubAsk.TheVariants.{Put, Finish, Arrive
 use Rattle.ic_law.specs.declared.history.HubReply.{HubReply}
 use Rattle.ic_law.specs.declared.history.Entry.{Entry}
 use Rattle.ic_law.specs.Packets.{Packet, packet_of, header_for, goes_forth, row_datagram, answer_datagram}
-use Rattle.ic_law.specs.History.{datagrams_of, rows_in, chunk_put, finishes, is_finish, was_given}
-use Rattle.ic_law.specs.Emission.{ticks_by}
+use Rattle.ic_law.specs.History.{datagrams_of, rows_in}
+use Rattle.ic_law.specs.Putting.{chunk_put, finishes, is_finish, was_given}
+use Rattle.ic_law.specs.Clock.{ticks_by}
 use Rattle.ic_law.proofs.Making.{answer_reads}
 use Rattle.ic_law.proofs.Lists.{Contains-none, Contains-head, Contains-map, map-Contains}
 use Rattle.ic_sender.specs.declared.flight.Flight.{Flight}

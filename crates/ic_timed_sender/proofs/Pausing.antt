@@ -9,8 +9,9 @@ use Rattle.ic_expire.specs.Queue.{Queue}
 use Rattle.ic_law.specs.declared.history.HubAsk.TheVariants.{Begin, Tick}
 use Rattle.ic_law.specs.declared.history.HubReply.TheVariants.{Ticked}
 use Rattle.ic_law.specs.declared.history.Entry.{Entry}
-use Rattle.ic_law.specs.History.{rows_emitted_of, chunks_put_of, finished_of}
-use Rattle.ic_law.specs.Emission.{last_tick, ticks_of}
+use Rattle.ic_law.specs.History.{rows_emitted_of}
+use Rattle.ic_law.specs.Putting.{chunks_put_of, finished_of}
+use Rattle.ic_law.specs.Clock.{last_tick, ticks_of}
 use Rattle.ic_law.proofs.Lists.{Contains-none}
 use Rattle.ic_law.proofs.Readings.{fold_every, rows_emitted_of-push}
 use Rattle.ic_sender.specs.Sending.{Sending, begun}

@@ -14,7 +14,8 @@ use Rattle.ic_expire.specs.Items.{AreOthers}
 use Rattle.ic_expire.specs.Queue.{Queue, IsQueue, EachLater}
 use Rattle.ic_law.specs.Filling.{sealed_of}
 use Rattle.ic_law.specs.History.{number_of}
-use Rattle.ic_law.specs.Emission.{timing_of, clock_of}
+use Rattle.ic_law.specs.Clock.{clock_of}
+use Rattle.ic_law.specs.Timing.{timing_of}
 use Rattle.ic_law.proofs.Lists.{Contains-head, Contains-tail, Contains-map, map-Contains}
 use Rattle.ic_sender.specs.declared.flight.Flight.{Flight}
 use Rattle.ic_sender.specs.Sending.{Sending}

@@ -11,7 +11,10 @@ use Rattle.ic_law.specs.declared.history.Entry.{Entry}
 use Rattle.ic_law.specs.Filling.{sealed_of}
 use Rattle.ic_law.specs.History.{sent_upto}
 use Rattle.ic_law.specs.Numbers.{IsIncreasingFrom}
-use Rattle.ic_law.specs.Emission.{Timer, Asked, timing_of, clock_of, next_clock, is_due, due_numbers, has_no_try, spent_timers, spent_query}
+use Rattle.ic_law.specs.Clock.{clock_of, next_clock}
+use Rattle.ic_law.specs.Timers.{Timer, Asked, is_due, due_numbers}
+use Rattle.ic_law.specs.Timing.{timing_of}
+use Rattle.ic_law.specs.Spending.{has_no_try, spent_timers, spent_query}
 use Rattle.ic_law.proofs.Lists.{Contains-head, Contains-tail}
 use Rattle.ic_sender.specs.declared.flight.Flight.{Flight}
 use Rattle.ic_sender.specs.declared.send_no.SendNo.{SendNo}

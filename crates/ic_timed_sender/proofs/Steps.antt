@@ -7,8 +7,9 @@ use Rattle.ic_expire.specs.declared.item.Item.{Item}
 use Rattle.ic_expire.specs.Queue.{Queue}
 use Rattle.ic_law.specs.declared.history.Entry.{Entry}
 use Rattle.ic_law.specs.Packets.{RowPacket}
-use Rattle.ic_law.specs.History.{chunks_put_of, finishes, finished_of}
-use Rattle.ic_law.specs.Emission.{ticks_by, wait_in}
+use Rattle.ic_law.specs.Putting.{chunks_put_of, finishes, finished_of}
+use Rattle.ic_law.specs.Clock.{ticks_by}
+use Rattle.ic_law.specs.Timers.{wait_in}
 use Rattle.ic_law.proofs.Readings.{finished_of-push}
 use Rattle.ic_sender.specs.Sending.{Sending, emitting, waits_next, rows_next}
 use Rattle.ic_sender.specs.Standing.{Stands as StandsFor}

@@ -21,9 +21,10 @@ use Rattle.ic_law.specs.declared.history.HubAsk.{HubAsk}
 use Rattle.ic_law.specs.declared.history.HubAsk.TheVariants.{Tick}
 use Rattle.ic_law.specs.declared.history.HubReply.TheVariants.{Ticked}
 use Rattle.ic_law.specs.declared.history.Entry.{Entry}
-use Rattle.ic_law.specs.History.{chunk_put, chunks_put_of, finishes, is_finish, finished_of}
+use Rattle.ic_law.specs.Putting.{chunk_put, chunks_put_of, finishes, is_finish, finished_of}
 use Rattle.ic_law.specs.Numbers.{IsIncreasingFrom}
-use Rattle.ic_law.specs.Emission.{clock_of, ticks_by, query_due}
+use Rattle.ic_law.specs.Clock.{clock_of, ticks_by}
+use Rattle.ic_law.specs.Emitting.{query_due}
 use Rattle.ic_law.proofs.Lists.{Contains-none, Contains-head, Contains-tail, Contains-map, map-Contains}
 use Rattle.ic_law.proofs.Timings.{ticks_of-push}
 use Rattle.ic_sender.specs.declared.flight.Flight.{Flight}

@@ -4,7 +4,7 @@ use Rattle.ic_base.specs.declared.keys.ConnEnd.{ConnEnd}
 use Rattle.ic_base.specs.declared.datagram.Datagram.{Datagram}
 use Rattle.ic_law.specs.declared.history.Entry.{Entry}
 use Rattle.ic_law.specs.Points.{Place, Every, IsFormed}
-use Rattle.ic_law.specs.Emission.{IsArmed}
+use Rattle.ic_law.specs.Armed.{IsArmed}
 use Rattle.ic_sender.specs.Entries.{IsSilent}
 use Rattle.ic_sender.specs.Standing.{KeepsSending, dues_held, query_at}
 use Rattle.ic_timed_sender.specs.Timed.{TimedState}

@@ -5,8 +5,11 @@ use Rattle.ic_base.specs.declared.keys.ConnEnd.{ConnEnd}
 use Rattle.ic_expire.specs.declared.item.Item.{Item}
 use Rattle.ic_expire.specs.Queue.{Queue}
 use Rattle.ic_law.specs.declared.history.Entry.{Entry}
-use Rattle.ic_law.specs.History.{rows_emitted_of, chunks_put_of, finished_of}
-use Rattle.ic_law.specs.Emission.{last_tick, clock_of, timing_of, next_clock, spent_timers, spent_query, packets_spent, query_spent}
+use Rattle.ic_law.specs.History.{rows_emitted_of}
+use Rattle.ic_law.specs.Putting.{chunks_put_of, finished_of}
+use Rattle.ic_law.specs.Clock.{last_tick, clock_of, next_clock}
+use Rattle.ic_law.specs.Timing.{timing_of}
+use Rattle.ic_law.specs.Spending.{spent_timers, spent_query, packets_spent, query_spent}
 use Rattle.ic_sender.specs.declared.send_no.SendNo.{SendNo}
 use Rattle.ic_sender.specs.declared.send_no.SendNo.TheVariants.{Full, Stopped, TooLong, Spent, Stray, Memory}
 use Rattle.ic_sender.specs.Sending.{Sending}

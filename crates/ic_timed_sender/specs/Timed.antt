@@ -9,7 +9,8 @@ use Rattle.ic_expire.specs.declared.item.Item.{Item}
 use Rattle.ic_expire.specs.declared.dues.Due.{Due}
 use Rattle.ic_expire.specs.Items.{is_due, is_upto}
 use Rattle.ic_expire.specs.Queue.{Queue, dues_of, without}
-use Rattle.ic_law.specs.Emission.{last_tick, query_due}
+use Rattle.ic_law.specs.Clock.{last_tick}
+use Rattle.ic_law.specs.Emitting.{query_due}
 use Rattle.ic_sender.specs.declared.send_no.SendNo.{SendNo}
 use Rattle.ic_sender.specs.Sending.{Sending, begun, halting, spent_of, waits_longer, copies}
 use Rattle.ic_sender.specs.Calls.{Hears, acknowledging, repeating, missing_of, unknown, IsStrayAck, IsStrayDuplicate, IsStrayDisorder, IsStrayNak, is_unanswered, queries_next}

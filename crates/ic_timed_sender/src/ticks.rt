@@ -4,7 +4,8 @@ ghost use Rattle.ic_expire.specs.Items.{is_due as is_item_due};
 ghost use Rattle.ic_expire.specs.Queue.{IsHeld};
 ghost use Rattle.ic_law.specs.declared.history.Entry.{Entry};
 ghost use Rattle.ic_law.specs.Numbers.{IsIncreasingFrom};
-ghost use Rattle.ic_law.specs.Emission.{last_tick, query_due};
+ghost use Rattle.ic_law.specs.Clock.{last_tick};
+ghost use Rattle.ic_law.specs.Emitting.{query_due};
 ghost use Rattle.ic_sender.specs.Sending.{spent_of, waits_longer};
 ghost use Rattle.ic_sender.specs.Calls.{Queries, IsNow, LeavesRoom, is_unanswered};
 ghost use Rattle.ic_sender.specs.Entries.{IsTicking, tried_when, queried_when};
@@ -24,7 +25,7 @@ use std::alloc::{AllocError, Global};
 const LAST: u64 = 18_446_744_073_709_551_488;
 
 /// The tick behind this one.
-#[tactic(auto, unfolding(ic_law::specs::Emission::last_tick))]
+#[tactic(auto, unfolding(ic_law::specs::Clock::last_tick))]
 fn tick_behind(now: u64) -> u64
     ensures { result ≡ next_tick now }
 {

@@ -1,5 +1,5 @@
 use Rattle.std.proofs.Common.{◌≤◌, ◌*◌, take}
-use Rattle.ic_law.specs.History.{chunks_put_of}
+use Rattle.ic_law.specs.Putting.{chunks_put_of}
 use Rattle.ic_chunk.specs.Counts.{HaveEnded}
 use Rattle.gd_sim.proofs.tally.rows_sent.Given as goal
 

@@ -1,5 +1,5 @@
 use Rattle.std.proofs.Common.{◌≡◌, ◌≤◌, ◌*◌, take}
-use Rattle.ic_law.specs.History.{payloads_of, whole_of}
+use Rattle.ic_law.specs.Taking.{payloads_of, whole_of}
 use Rattle.ic_chunk.specs.Counts.{HaveEnded}
 use Rattle.gd_sim.proofs.tally.rows_taken.Given as goal
 

@@ -1,5 +1,7 @@
 use Rattle.std.proofs.Common.{◌-◌, length, false, ap, ◌∙◌, subst, refl}
-use Rattle.ic_law.specs.History.{chunks_put_of, payloads_of, rows_emitted_of, sent_upto, whole_of}
+use Rattle.ic_law.specs.History.{rows_emitted_of, sent_upto}
+use Rattle.ic_law.specs.Putting.{chunks_put_of}
+use Rattle.ic_law.specs.Taking.{payloads_of, whole_of}
 use Rattle.ic_law.specs.Streams.{history_of}
 use Rattle.ic_chunk.specs.Counts.{HaveEnded}
 use Rattle.ic_chunk.proofs.Ended.{counts_rows}

@@ -1,5 +1,5 @@
 use Rattle.std.proofs.Common.{◌≡◌, map}
-use Rattle.ic_law.specs.Emission.{numbers_behind}
+use Rattle.ic_law.specs.Timing.{numbers_behind}
 use Rattle.ic_sender.specs.Sending.{rows_kept, flight_of}
 use Rattle.ic_sender.specs.Views.{with_newest}
 use Rattle.ic_sender.proofs.planning.going.Given as goal

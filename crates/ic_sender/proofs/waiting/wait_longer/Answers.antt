@@ -1,7 +1,7 @@
 use Rattle.std.proofs.Common.{◌≡◌, ◌+◌, drop, ap, sym, ◌∙◌, arith, subst, slice_index_or}
 use Rattle.ic_expire.specs.Queue.{Queue, with_item}
 use Rattle.ic_window.specs.Waiting.{wait_of}
-use Rattle.ic_law.specs.Emission.{wait_in}
+use Rattle.ic_law.specs.Timers.{wait_in}
 use Rattle.ic_sender.specs.Sending.{later_waits, tries_of, flight_at}
 use Rattle.ic_sender.specs.Views.{MayWait}
 use Rattle.ic_sender.proofs.MayWaiting.{next_at, may_now, may_next}

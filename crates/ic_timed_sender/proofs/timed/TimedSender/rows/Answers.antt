@@ -1,7 +1,7 @@
 use Rattle.std.proofs.Common.{◌≡◌, List, length, min, subst}
 use Rattle.ic_row.specs.declared.value.Value.{Value}
 use Rattle.ic_law.specs.declared.history.Entry.{Entry}
-use Rattle.ic_law.specs.History.{chunks_put_of}
+use Rattle.ic_law.specs.Putting.{chunks_put_of}
 use Rattle.ic_law.specs.Streams.{AreSent}
 use Rattle.ic_chunk.specs.Counts.{greatest_count}
 use Rattle.ic_chunk.proofs.Ended.{tells}
