@@ -38,7 +38,7 @@ def case_of(seed: int, number: int) -> Case:
     elif kind == "crowded":
         document, words = tables.crowded(rng)
     elif kind == "words":
-        document, words = tables.running(rng)[0], tables.faulty_words(rng)
+        document, words = tables.running(rng)[0], tables.faulty_words(rng, turn)
     elif kind == "rule":
         document, words = trees.aiming(rng, 1 + turn % 12), ["sim"]
     elif kind == "deep":

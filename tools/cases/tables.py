@@ -83,7 +83,7 @@ def lossy(rng: random.Random) -> tuple[dict, list[str]]:
 
 def crowded(rng: random.Random) -> tuple[dict, list[str]]:
     """Many rows or many segments: more calls than one round has, and rings that fill."""
-    document = any_document(rng, [300, 700, 1200])
+    document = any_document(rng, [300, 500, 900])
     document["tables"] = document["tables"][:2]
     document["segments"] = rng.choice([1, 1, 2, 5, 64])
     settings = document.setdefault("settings", {})
@@ -93,18 +93,15 @@ def crowded(rng: random.Random) -> tuple[dict, list[str]]:
     return document, ["sim", *losses]
 
 
-WORDS = [[], [""], ["sim", ""], ["run"], ["SIM"], ["sim "], ["drop=1", "sim"], ["sim", "drop=1", "drop=2"], ["sim", "sim"], ["check"]]
+DROPS = ["", "01", "0", "1,", ",1", "1,,2", "2,1", "1,1", "+1", "-1", "1 ", " 1", "4294967296", "1.0", "a", "1,2,x", "٣", "1;2", "0,1", "1,02"]
+WORDS = [[], ["sim", "drop=1", "drop=2"]] + [["sim", f"drop={drops}"] for drops in DROPS]
+WORDS += [[""], ["sim", ""], ["run"], ["SIM"], ["sim "], ["drop=1", "sim"], ["sim", "sim"], ["check"]]
+WORDS += [["sim", word] for word in ("drop", "drops=1", "Drop=1", "seed=1", "=1", "drop=4294967295", "drop=1,4294967295")]
 WORDS += [["sim", "drop=1\udcff"], ["\udcff"]]  # an argument that is no text
-DROPS = ["", "0", "01", "1,", ",1", "1,,2", "2,1", "1,1", "+1", "-1", "1 ", " 1", "4294967296", "1.0", "a", "1,2,x", "٣", "1;2"]
 
 
-def faulty_words(rng: random.Random) -> list[str]:
-    """Words that are none of the command's, or just are."""
-    how = rng.randrange(4)
-    if how == 0:
-        return rng.choice(WORDS)
-    if how == 1:
-        return ["sim", "drop=" + rng.choice(DROPS)]
-    if how == 2:
+def faulty_words(rng: random.Random, turn: int) -> list[str]:
+    """Words that are none of the command's, or just are: each of the list in turn, and every third time a long list of drops."""
+    if turn % 3 == 2:
         return ["sim", drop_word(rng.sample(range(1, 2**32), rng.choice([1, 63, 64, 65, 66])))]
-    return ["sim", rng.choice(["drop", "drops=1", "Drop=1", "seed=1", "=1", "drop=4294967295", "drop=1,4294967295"])]
+    return WORDS[(turn - turn // 3) % len(WORDS)]

@@ -58,6 +58,6 @@ def value_of(source: bytes) -> object:
         value = json.loads(text, parse_int=whole, parse_float=real, parse_constant=no_constant)
     except (ValueError, RecursionError) as fault:
         raise NoJson(str(fault)) from None
-    if has_lone_surrogate(value):
+    if "\\u" in text and has_lone_surrogate(value):
         raise NoJson("half of a pair")
     return value

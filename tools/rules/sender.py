@@ -94,20 +94,17 @@ class Sender:
     def _capacity(self) -> int:
         return self.depth - (self.emitted - self.consumed)
 
-    def _unsent(self) -> list[Packet]:
-        return [packet for packet in self.kept if packet.emitted is None]
-
     def _go(self, now: int) -> list[Out]:
         """Emits what there is room for; then it is judged whether a status query is to stand."""
         out = []
-        unsent = self._unsent()
+        unsent = [packet for packet in self.kept if packet.emitted is None] if self.emitted < self.sealed else []
         for packet in unsent[: self.window.room(self.emitted - self.heard, self._capacity())]:
             packet.emitted, packet.due, packet.tries = now, now + self.window.wait(0), 0
             self.emitted = packet.seq
             out.append(self._copy(packet))
         if self._capacity() > 0:
             self.query_due = None
-        elif self.query_due is None and self.emitted == self.heard and self._unsent():
+        elif self.query_due is None and self.emitted == self.heard and self.emitted < self.sealed:
             self.query_due, self.query_tries = now + self.window.wait(0), 0
         return out
 
