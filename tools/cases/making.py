@@ -7,6 +7,7 @@ from dataclasses import dataclass
 from . import faults, tables, trees
 
 KINDS = ["runs", "lossy", "rule", "fault", "deep", "lossy", "runs", "words", "fault", "deep", "crowded", "plans", "runs", "spoiled"]
+RULES = [12, 9, 11, 7, 4, 5, 8, 3, 1, 6, 10, 2]
 LONGEST = 67108864
 
 
@@ -40,7 +41,7 @@ def case_of(seed: int, number: int) -> Case:
     elif kind == "words":
         document, words = tables.running(rng)[0], tables.faulty_words(rng, turn)
     elif kind == "rule":
-        document, words = trees.aiming(rng, 1 + turn % 12), ["sim"]
+        document, words = trees.aiming(rng, RULES[turn % 12]), ["sim"]
     elif kind == "deep":
         document, words = trees.deep(rng), ["sim"]
     elif kind == "plans":

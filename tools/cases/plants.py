@@ -43,6 +43,8 @@ PLANTS = [
     Plant("an edit of another crate", "docs/THEOREMS.md", swap("`takes-segment-64`", "`keeps-one-in-flight`"), ["check", "claims"], "keeps-one-in-flight"),
     Plant("an edit that isn't there", "docs/THEOREMS.md", swap("`takes-segment-64`", "`takes-segment-65`"), ["check", "claims"], "takes-segment-65"),
     Plant("a clause of a README that isn't there", "crates/ic_window/README.md", swap(r"\| `(\w+)", r"| `\1_not"), ["check", "claims"], "_not"),
+    Plant("a definition that isn't there", "docs/DEFINITIONS.md", swap("`AreChecked`", "`AreUnchecked`"), ["check", "definitions"], "AreUnchecked"),
+    Plant("a definition in another file", "crates/ic_base/specs/Settings.antt", swap("record AreChecked ", "record AreTried "), ["check", "definitions"], "AreChecked"),
     Plant("a README without a heading", "crates/ic_window/README.md", swap(r"\*\*Tested only\*\*", "Tested"), ["check", "limits"], "Tested only"),
     Plant("a crate without a README", "crates/ic_row/README.md", gone, ["check", "limits"], "ic_row"),
     Plant("a file that is too long", "crates/ic_window/src/lib.rt", longer, ["check", "limits"], "at most"),

@@ -33,10 +33,12 @@ def any_table(rng: random.Random, name: str, counts: list[int]) -> dict:
 
 
 def any_settings(rng: random.Random) -> dict:
+    packet = rng.choice([128, 129, 200, 1024, 8192, 65507])
+    depths = [1, 2, 4, 9] if packet > 8192 else [1, 2, 4, 9, 256]  # rings of all connections take their room at once
     settings = {
-        "packet": rng.choice([128, 129, 200, 1024, 8192, 65507]),
-        "receive_depth": rng.choice([1, 2, 4, 9, 256]),
-        "send_depth": rng.choice([1, 2, 4, 9, 256]),
+        "packet": packet,
+        "receive_depth": rng.choice(depths),
+        "send_depth": rng.choice(depths),
         "retries": rng.choice([1, 3, 20, 1000]),
         "flow": rng.choice(["loss", "capacity"]),
     }

@@ -2,7 +2,7 @@
 from __future__ import annotations
 
 import re
-from dataclasses import dataclass, field
+from dataclasses import dataclass
 from functools import lru_cache
 from pathlib import Path
 from typing import Iterator
@@ -63,12 +63,13 @@ def prose(text: str) -> list[tuple[int, str]]:
 
 @dataclass
 class Row:
-    """A row of a table: its line, its cells by the heads of their columns, and the crate that the text above it named last."""
+    """A row of a table: its line, its cells by the heads of their columns, and what the text above it named last."""
 
     number: int
     cells: dict[str, str]
-    crate: str | None = None
-    heads: list[str] = field(default_factory=list)
+    heads: list[str]
+    crate: str | None  # of the section
+    file: str | None  # of definitions or of code, or the folder of such files
 
 
 def cells_of(line: str) -> list[str]:
@@ -78,17 +79,19 @@ def cells_of(line: str) -> list[str]:
 def rows(text: str) -> Iterator[Row]:
     """The rows of all tables of a page."""
     heads: list[str] = []
-    previous, crate = "", None
+    previous, crate, file = "", None, None
     for number, line in prose(text):
-        if line.startswith("## "):
-            crate = None
+        if line.startswith("#"):
+            crate = next((word for word in re.findall(r"\w+", line) if word in crates()), None)
+            file = None
         if not line.lstrip().startswith("|"):
             heads = []
             crate = next((word for word in reversed(ticked(line)) if word in crates()), crate)
+            file = next((word for word in reversed(ticked(line)) if re.search(r"/.*\.(?:rt|antt)$|^crates/\w+/specs$", word)), file)
         elif re.fullmatch(r"[\s|:-]+", line) and "-" in line:
             heads = [cell.strip("*` ").lower() for cell in cells_of(previous)]
         elif heads:
-            yield Row(number, dict(zip(heads, cells_of(line))), crate, heads)
+            yield Row(number, dict(zip(heads, cells_of(line))), heads, crate, file)
         previous = line
 
 
