@@ -306,16 +306,26 @@ def room_of(root: Node, document: dict, sound: dict[int, Seen]) -> tuple[int, in
     return connections * one, workers
 
 
-def first_broken(plan: dict, document: dict) -> str | None:
-    """`node N rule R` of the first node in postorder that breaks a rule, with what is told beside it."""
+def tables_of(document: dict) -> dict:
+    """The tables by name, of one name the first."""
     tables: dict = {}
     for table in document["tables"]:
         tables.setdefault(table["name"], table)
+    return tables
+
+
+def first_broken(plan: dict, document: dict) -> str | None:
+    """`node N rule R` of the first node in postorder that breaks a rule, with what is told beside it."""
     try:
-        judge(numbered(plan, [], [0]), tables, document, {})
+        judge(numbered(plan, [], [0]), tables_of(document), document, {})
     except Broken as broken:
         return broken.line
     return None
+
+
+def size_of(plan: dict) -> int:
+    """How many nodes it has."""
+    return 1 + sum(size_of(child) for child in children_of(plan))
 
 
 def runs(plan: dict) -> bool:

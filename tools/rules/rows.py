@@ -1,26 +1,22 @@
-"""Rows at their segments, and the packets that carry them (docs/FORMATS.md)."""
+"""Rows: their spelling, the segments where they stand, the chunks into which they are cut, their text (docs/FORMATS.md)."""
 from __future__ import annotations
 
 import json
 
+from .packets import cut, spelled
 
-def spelled(value: object) -> bytes:
-    """The bytes of a value in a row's one spelling."""
-    if value is None:
-        return b"\x00"
-    if isinstance(value, int):
-        return b"\x01" + value.to_bytes(8, "big", signed=True)
-    text = value.encode("utf-8")
-    return b"\x02" + len(text).to_bytes(4, "big") + text
+
+def hash_of(spelling: bytes) -> int:
+    """FNV-1a in 64 bits."""
+    number = 14695981039346656037
+    for byte in spelling:
+        number = (number ^ byte) * 1099511628211 % 2**64
+    return number
 
 
 def segment_of(row: list, key: list[int], segments: int) -> int:
-    """FNV-1a over the key's values, modulo the number of segments."""
-    number = 14695981039346656037
-    for position in key:
-        for byte in spelled(row[position]):
-            number = (number ^ byte) * 1099511628211 % 2**64
-    return number % segments
+    """The hash of the key's values, modulo the number of segments."""
+    return hash_of(b"".join(spelled(row[position]) for position in key)) % segments
 
 
 def parts_of(table: dict, segments: int) -> list[list]:
@@ -34,21 +30,14 @@ def parts_of(table: dict, segments: int) -> list[list]:
     return parts
 
 
-def packets_of(rows: list, packet: int) -> int:
-    """How many packets of this size carry these rows and the end of stream behind them."""
-    room = packet - 72
-    count = 1
-    filled = 0
+def chunks_of(rows: list, packet: int) -> list[tuple[int, list]]:
+    """The chunks into which these rows are cut: the size of each with its head, and the row that it ends, if any."""
+    chunks: list[tuple[int, list]] = []
     for row in rows:
-        size = 2 + sum(len(spelled(value)) for value in row)
-        while size > 0:
-            chunk = 4 + min(size, room)
-            if filled + chunk + 68 > packet:
-                count += 1
-                filled = 0
-            filled += chunk
-            size -= room
-    return count
+        *first, last = map(len, cut(row, packet))
+        chunks += [(size, []) for size in first]
+        chunks.append((last, [row]))
+    return chunks
 
 
 def line_of(row: list) -> str:
