@@ -8,10 +8,12 @@
 #![tactic(auto)]
 
 mod counter;
+mod entry;
 mod machine;
 mod run;
 
 pub use counter::{Counted, Counter};
+pub use entry::Entry;
 pub use machine::Machine;
 pub use run::act_all;
 
