@@ -1,2 +1,7 @@
 pub mod Entries
 pub mod Counting
+pub mod Parts
+pub mod Passes
+pub mod Views
+pub mod Rule
+pub mod Steps
