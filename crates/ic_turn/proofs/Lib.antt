@@ -3,3 +3,5 @@ mod Sums
 pub mod PartLemmas
 pub mod Keeps
 pub mod PassLemmas
+pub mod Crosses
+pub mod Manies

@@ -59,9 +59,13 @@ module _ {A R K : Type 0} where
   abbrev pub giver : Passing A R K → Passing A R K
   giver p = record p { spare = p.spare - 1 }
 
-  -- the pass that has this number
+  -- a new pass of this number
+  abbrev pub given_as : ℕ → Passing A R K → Passing A R K
+  given_as number p = record { turn = p.turn; number = number; spare = 0; mine = []; met = 0; joined = [] }
+
+  -- the pass that has the number that was given away
   abbrev pub given : Passing A R K → Passing A R K
-  given p = record { turn = p.turn; number = p.spare; spare = 0; mine = []; met = 0; joined = [] }
+  given p = given_as p.spare p
 
   -- a pass that took in another
   abbrev pub joined_with : Passing A R K → Passing A R K → Passing A R K
