@@ -1,2 +1,7 @@
 mod Lists
 mod Sums
+pub mod PartLemmas
+pub mod Keeps
+pub mod PassLemmas
+pub mod Crosses
+pub mod Manies

@@ -1,7 +1,8 @@
 -- What one more entry does to a list of entries.
 use Rattle.std.proofs.Common.{◌≡◌, List, [], ◌∷◌, ◌++◌, length, refl, ap, sym, ◌∙◌, subst, arith, inl, inr, ◌⊎◌, append_assoc, append-nil, length-append, ◌+◌}
 use Rattle.std.specs.List.{AllByRecursion}
-use Rattle.ic_turn.specs.Entries.{Entry, entries_of, Every, StandsWith}
+use Rattle.ic_turn.specs.declared.entry.Entry.{Entry}
+use Rattle.ic_turn.specs.Entries.{entries_of, Every, StandsWith}
 
 -- the one more stands last, or the place is among the others
 cut_at : {A : Type 0} (xs : List A) (x : A) (before : List A) (e : A) (after : List A) → xs ++ x ∷ [] ≡ before ++ e ∷ after

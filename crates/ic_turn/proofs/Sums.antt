@@ -3,7 +3,8 @@ use Rattle.std.proofs.Common.{◌≡◌, ℕ, ◌+◌, Bool, true, false, if◌t
 use Rattle.std.proofs.lemmas.List.Sums.{sum_by-append}
 use Rattle.ic_turn.specs.declared.counter.Counted.{Counted}
 use Rattle.ic_turn.specs.declared.counter.Counted.TheVariants.{Sum, Over}
-use Rattle.ic_turn.specs.Entries.{Entry, StandsWith}
+use Rattle.ic_turn.specs.declared.entry.Entry.{Entry}
+use Rattle.ic_turn.specs.Entries.{StandsWith}
 use Rattle.ic_turn.specs.Counting.{reply_to, added_by, sum_of, StandsAt}
 use Rattle.ic_turn.proofs.Lists.{every_none, every_push}
 

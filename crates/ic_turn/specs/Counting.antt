@@ -3,7 +3,8 @@ use Rattle.std.specs.Prelude.{◌≡◌, ℕ, ◌+◌, ◌≤◌, nat_le, if◌t
 use Rattle.std.specs.List.{sum_by}
 use Rattle.ic_turn.specs.declared.counter.Counted.{Counted}
 use Rattle.ic_turn.specs.declared.counter.Counted.TheVariants.{Sum, Over}
-use Rattle.ic_turn.specs.Entries.{Entry, Every}
+use Rattle.ic_turn.specs.declared.entry.Entry.{Entry}
+use Rattle.ic_turn.specs.Entries.{Every}
 
 -- a counter: the limit, and the sum of what it has added
 pub record Count : Type 0 where

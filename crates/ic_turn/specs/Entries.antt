@@ -1,10 +1,6 @@
 -- Asks to a machine, with their replies.
 use Rattle.std.specs.Prelude.{◌≡◌, List, [], ◌∷◌, ◌++◌}
-
--- an ask with its reply
-pub record Entry (A R : Type 0) : Type 0 where
-  pub ask : A
-  pub reply : R
+use Rattle.ic_turn.specs.declared.entry.Entry.{Entry}
 
 module _ {A R : Type 0} where
   -- the entries of asks and replies that stand in one order

@@ -53,14 +53,13 @@ impl Machine for Counter {
 
     type Reply = Counted;
 
-    ghost use Rattle.std.specs.Prelude.{ℕ};
+    type Kept = u64;
+
+    type State = u64;
+
     ghost use Rattle.ic_turn.specs.Counting.{MayCount, IsCount, StandsAt};
 
-    ghost Kept = { ℕ };
-
     ghost kept = { λ c. c.limit };
-
-    ghost State = { ℕ };
 
     ghost state = { λ c. c.sum };
 

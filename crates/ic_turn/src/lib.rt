@@ -7,13 +7,30 @@
 //! Below: std alone. Above: the hub of a segment, the network, and whatever several callers ask.
 #![tactic(auto)]
 
+mod board;
+mod busy;
+mod closing;
 mod counter;
+mod crossing;
+mod entry;
 mod machine;
+mod many;
+mod parting;
+mod pass;
+mod plays;
 mod run;
+mod turn;
+mod view;
 
+pub use busy::Busy;
+pub use closing::Closed;
 pub use counter::{Counted, Counter};
+pub use entry::Entry;
 pub use machine::Machine;
+pub use many::{join_all, split_all};
+pub use pass::Pass;
 pub use run::act_all;
+pub use turn::{Turn, TurnNo};
 
 #[cfg(test)]
 mod tests;

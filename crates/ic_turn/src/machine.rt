@@ -1,6 +1,7 @@
 // What serves asks.
 ghost use Rattle.std.specs.Prelude.{◌≡◌, List, [], ◌∷◌};
-ghost use Rattle.ic_turn.specs.Entries.{Entry, StandsWith};
+ghost use Rattle.ic_turn.specs.declared.entry.Entry.{Entry};
+ghost use Rattle.ic_turn.specs.Entries.{StandsWith};
 
 use std::alloc::Global;
 
@@ -15,24 +16,25 @@ pub trait Machine {
     /// Where an ask can find no memory, a variant says so.
     type Reply;
 
-    /// Plain data that no `act` changes.
-    ghost Kept: { Type 0 };
+    /// Plain data that no `act` changes. It is there for contracts alone: no value of it need ever be made.
+    type Kept;
 
-    ghost kept: { Self → Kept };
+    /// The machine as plain data. It is there for contracts alone, too.
+    type State;
 
-    /// The machine as plain data, as it is now.
-    ghost State: { Type 0 };
+    ghost kept: { Self → Self.Kept };
 
-    ghost state: { Self → State };
+    /// The machine as it is now.
+    ghost state: { Self → Self.State };
 
     /// A machine that keeps this may answer this ask so, whatever came before.
-    ghost answers: { Kept → Self.Ask → Self.Reply → Type 0 };
+    ghost answers: { Self.Kept → Self.Ask → Self.Reply → Type 0 };
 
     /// The entries of a machine that keeps this may be these.
-    ghost lawful: { Kept → List (Entry Self.Ask Self.Reply) → Type 0 };
+    ghost lawful: { Self.Kept → List (Entry Self.Ask Self.Reply) → Type 0 };
 
     /// These entries can have led a machine that keeps this to this state.
-    ghost stands: { Kept → State → List (Entry Self.Ask Self.Reply) → Type 0 };
+    ghost stands: { Self.Kept → Self.State → List (Entry Self.Ask Self.Reply) → Type 0 };
 
     /// Answers an ask. What memory it takes is of `alloc`.
     fn act(&mut self, alloc: Global, ask: Self::Ask) -> Self::Reply
@@ -41,5 +43,5 @@ pub trait Machine {
         ensures stands { StandsWith (stands (kept self.old) (state self.old)) (stands (kept self.new) (state self.new)) (record { ask = ask; reply = result } ∷ []) };
 
     /// What a machine stands for is lawful.
-    ghost stands_lawful: { (k : Kept) (s : State) (entries : List (Entry Self.Ask Self.Reply)) → stands k s entries → lawful k entries };
+    ghost stands_lawful: { (k : Self.Kept) (s : Self.State) (entries : List (Entry Self.Ask Self.Reply)) → stands k s entries → lawful k entries };
 }
