@@ -7,13 +7,13 @@ use Rattle.std.proofs.lemmas.Option.{slice_get_read}
 use Rattle.std.proofs.lemmas.List.Elements.{Contains-append_cases, Contains-append_left, Contains-append_right, All-from_recursion}
 use Rattle.ic_recvring.specs.declared.slot.Slot.{Slot}
 use Rattle.ic_recvring.specs.Numbers.{numbers_from, IsRunEnd, IsGreatest, has, missing}
-use Rattle.ic_recvring.specs.Ring.{Packet, Ring, IsRing, empty, numbers, placed, stored_of, room_of, front_of, after_front, without, IsNew}
+use Rattle.ic_recvring.specs.Ring.{Packet, IsRing, empty, numbers, placed, stored_of, room_of, front_of, after_front, without, IsNew}
 use Rattle.ic_recvring.specs.Views.{packet_in, looked, packet_at, is_absent, joined, window, ring_of}
 use Rattle.ic_recvring.specs.Room.{IsSound, HasRoom, AreFree}
 use Rattle.ic_recvring.proofs.Among.{numbers_in, numbers_bound, numbers_from-more, has_there, has_not}
 use Rattle.ic_recvring.proofs.Runs.{run_end_is_one, greatest_is_one, consumed_in_run}
 use Rattle.ic_recvring.proofs.Stretch.{same_window, no_window, window-more, increases, each, number_there, number_from, first_is, placed_window, window_without}
-use Rattle.ic_recvring.proofs.Slots.{apart, wraps, set_here, set_else, All-set, each_slot, slot_of, named, some_packet, no_packet, read_slot, read_kept, read_free, kept_is, place_within, written_here, written_else, all_free}
+use Rattle.ic_recvring.proofs.Slots.{apart, wraps, set_here, All-set, each_slot, slot_of, named, some_packet, no_packet, read_slot, read_kept, read_free, kept_is, place_within, written_here, written_else, all_free}
 
 -- ---- what is stored
 

@@ -159,13 +159,7 @@ impl RecvRing {
         ensures ok { IfOk result (λ seqs. (r g : ℕ) → IsRunEnd (stored_of self.now) r → IsGreatest (stored_of self.now) g
             → seqs ≡ missing (stored_of self.now) r g) }
     {
-        let seqs = absent(
-            alloc,
-            self.slots.as_slice(),
-            self.depth,
-            self.run,
-            self.top,
-        )?;
+        let seqs = absent(alloc, self.slots.as_slice(), self.depth, self.run, self.top)?;
         Ok(Seqs::from_vec(seqs))
     }
 }

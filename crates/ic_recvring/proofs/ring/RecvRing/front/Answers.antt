@@ -1,4 +1,4 @@
-use Rattle.std.proofs.Common.{◌≡◌, ◌+◌, ◌%◌, length, refl, Option, Some, ap, sym, ◌∙◌, subst, arith}
+use Rattle.std.proofs.Common.{◌+◌, ◌%◌, length, refl, Option, Some, ap, sym, ◌∙◌, subst, arith}
 use Rattle.std.proofs.lemmas.Option.{slice_get_read}
 use Rattle.ic_recvring.specs.Ring.{Packet, IsRing, front_of}
 use Rattle.ic_recvring.proofs.Slots.{place_within}

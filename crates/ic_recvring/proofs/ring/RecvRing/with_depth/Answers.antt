@@ -1,6 +1,5 @@
-use Rattle.std.proofs.Common.{◌≡◌, sym, subst}
+use Rattle.std.proofs.Common.{subst}
 use Rattle.std.specs.List.{All}
-use Rattle.ic_recvring.specs.Ring.{room_of}
 use Rattle.ic_recvring.specs.Room.{HasRoom}
 use Rattle.ic_recvring.proofs.Sound.{sound_empty, ring_empty}
 use Rattle.ic_recvring.proofs.ring.RecvRing.with_depth.Goals as goal
