@@ -1,6 +1,6 @@
 -- Numbers of packets: how far they run without a gap, the greatest of them, and those that are missing.
-use Rattle.std.specs.Prelude.{◌≡◌, ℕ, zero, suc, ◌+◌, ◌-◌, ◌<◌, ◌≤◌, ◌==◌, ◌⊎◌, List, [], ◌∷◌, length, take, drop, Bool, not, filter, Contains}
-use Rattle.std.specs.List.{list_any, AllByRecursion}
+use Rattle.std.specs.Prelude.{◌≡◌, ℕ, zero, suc, ◌+◌, ◌-◌, ◌<◌, ◌≤◌, ◌==◌, ◌⊎◌, List, [], ◌∷◌, Bool, not, filter, Contains}
+use Rattle.std.specs.List.{list_any}
 
 -- so many numbers from n on
 abbrev pub numbers_from : ℕ → ℕ → List ℕ
@@ -29,17 +29,3 @@ has numbers n = list_any (λ m. m == n) numbers
 -- the numbers above r, up to g, that aren't among these
 abbrev pub missing : List ℕ → ℕ → ℕ → List ℕ
 missing numbers r g = filter (λ n. not (has numbers n)) (numbers_from (r + 1) (g - r))
-
--- ---- while a packet is stored
-
--- a number that isn't among these goes here, behind all lesser ones and before all greater ones
-pub record IsPlace (numbers : List ℕ) (n place : ℕ) : Type 0 where
-  pub within : place ≤ length numbers
-  pub before : AllByRecursion (λ m. m < n) (take place numbers)
-  pub behind : AllByRecursion (λ m. n < m) (drop place numbers)
-
--- the run goes on over these numbers, from one number to another
-pub record RunsOn (numbers : List ℕ) (from to : ℕ) : Type 0 where
-  pub up : from ≤ to
-  pub run : (n : ℕ) → from < n → n ≤ to → Contains numbers n
-  pub end : Contains numbers (to + 1) → ⊥

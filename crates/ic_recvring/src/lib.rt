@@ -10,10 +10,11 @@
 #![tactic(auto)]
 
 mod answer;
-mod kept;
 mod ring;
 mod sealed;
 mod seqs;
+mod slot;
+mod window;
 
 pub use answer::Store;
 pub use ring::RecvRing;

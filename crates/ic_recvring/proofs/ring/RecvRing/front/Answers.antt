@@ -1,21 +1,37 @@
-use Rattle.std.proofs.Common.{◌≡◌, None, false, true, inl, inr, sym, ap, ◌∙◌, arith}
-use Rattle.std.proofs.lemmas.Bool.Decides.{leb_tells}
-use Rattle.std.proofs.lemmas.List.{nil_from_length}
-use Rattle.ic_recvring.specs.Ring.{front_of}
-use Rattle.ic_recvring.specs.Views.{ring_of}
-use Rattle.ic_recvring.proofs.Packets.{front_gap}
-use Rattle.ic_recvring.proofs.Sound.{ahead_of}
+use Rattle.std.proofs.Common.{◌+◌, ◌%◌, length, refl, Option, Some, ap, sym, ◌∙◌, subst, arith}
+use Rattle.std.proofs.lemmas.Option.{slice_get_read}
+use Rattle.ic_recvring.specs.Ring.{Packet, IsRing, front_of}
+use Rattle.ic_recvring.proofs.Slots.{place_within}
+use Rattle.ic_recvring.proofs.Sound.{is_ring, deep, front_none, front_read}
 use Rattle.ic_recvring.proofs.ring.RecvRing.front.Goals as goal
-use Rattle.ic_recvring.proofs.ring.RecvRing.front.Goals.{in_default-via-in-Some+else-k-self-eq1, in_default-via-in_default}
 
-pub returns-in_default-clause-value : goal.returns-in_default-clause-value
-returns-in_default-clause-value c =
+abbrev some_of : Packet → Option Packet
+some_of p = Some p
+
+pub returns-then-self-clause-value : goal.returns-then-self-clause-value
+returns-then-self-clause-value c = let s = c.self.inside in sym (ap front_of (sym c.self.view_is) ∙ front_none s.depth s.packet s.consumed s.run s.top s.slots.items c.self.invariant (omega arith))
+
+pub returns-then-self-clause-ring : goal.returns-then-self-clause-ring
+returns-then-self-clause-ring c = let s = c.self.inside in subst IsRing c.self.view_is (is_ring s.depth s.packet s.consumed s.run s.top s.slots.items c.self.invariant)
+
+pub nonzero_rem-seq : goal.nonzero_rem-seq
+nonzero_rem-seq c = let s = c.self.inside in let pos = deep s.depth s.packet s.consumed s.run s.top s.slots.items c.self.invariant (omega arith) in omega (arith, pos)
+
+pub index-slot-requires : goal.index-slot-requires
+index-slot-requires c =
     let s = c.self.inside in
-    let none : front_of (ring_of s.depth s.packet s.consumed s.kept.items) ≡ None =
-    elim c.in_default.branch [
-      | in_default-via-in-Some+else-k-self-eq1 w ↦ front_gap s.consumed s.kept.items w.in-Some.k.now (ahead_of s.depth s.packet s.consumed s.run s.kept.items _ s.spare.items _ c.self.invariant) w.in-Some.ensures.lookup w.if-k-self-eq1.false
-      | in_default-via-in_default w ↦
-          let empty : s.kept.len ≡ 0 = elim (leb_tells s.kept.len 0) [ inl v ↦ omega (arith, v.1) | inr v ↦ absurd (let bad : false ≡ true = w.in_default.ensures.variant.1 v.1 in cc) ] in
-          ap (λ l. front_of (ring_of s.depth s.packet s.consumed l)) (nil_from_length s.kept.items (omega (arith, s.kept.ok.0, empty)))
-    ] in
-    sym (ap front_of (sym c.self.view_is) ∙ none)
+    let lt = place_within s.slots.items s.depth (s.consumed + 1) c.self.invariant.count (deep s.depth s.packet s.consumed s.run s.top s.slots.items c.self.invariant c.if-self.false) in
+    omega (arith, lt, s.slots.ok.0)
+
+pub returns-clause-value : goal.returns-clause-value
+returns-clause-value c =
+    let s = c.self.inside in
+    let lt = place_within s.slots.items s.depth (s.consumed + 1) c.self.invariant.count (deep s.depth s.packet s.consumed s.run s.top s.slots.items c.self.invariant c.if-self.false) in
+    let slot = c.index-slot.result.now in
+    let is = slice_get_read s.slots.items (length s.slots.items) ((s.consumed + 1) % s.depth) slot refl lt c.index-slot.ensures in
+    ap (λ l. some_of (record { seq = s.consumed + 1; last = slot.last; payload = l })) c.as_slice.ensures.value
+    ∙ sym (front_read s.depth s.packet s.consumed s.run s.top s.slots.items c.self.invariant slot c.if-self.false is)
+    ∙ ap front_of c.self.view_is
+
+pub returns-clause-ring : goal.returns-clause-ring
+returns-clause-ring c = let s = c.self.inside in subst IsRing c.self.view_is (is_ring s.depth s.packet s.consumed s.run s.top s.slots.items c.self.invariant)

@@ -1,36 +1,53 @@
-use Rattle.std.proofs.Common.{ap, sym, ◌∙◌, subst, arith}
+use Rattle.std.proofs.Common.{◌≡◌, ◌<◌, ◌≤◌, ◌%◌, ℕ, List, false, true, is_some, refl, ap, sym, ◌∙◌, subst, arith}
 use Rattle.std.specs.List.{Contains}
+use Rattle.ic_recvring.specs.declared.slot.Slot.{Slot}
 use Rattle.ic_recvring.specs.Ring.{Ring, numbers, without}
-use Rattle.ic_recvring.proofs.Order.{Increases-weaker}
-use Rattle.ic_recvring.proofs.Packets.{numbers_are}
-use Rattle.ic_recvring.proofs.Sound.{ahead_of}
-use Rattle.ic_recvring.specs.Views.{seqs_of}
-use Rattle.ic_recvring.proofs.Back.{out_low, sound_back, ring_back}
+use Rattle.ic_recvring.specs.Views.{packet_at}
+use Rattle.ic_recvring.proofs.Slots.{place_within}
+use Rattle.ic_recvring.proofs.Sound.{kept_from, top_low, slot_room, ring_without, sound_back}
 use Rattle.ic_recvring.proofs.ring.RecvRing.take_back.Goals as goal
 
-pub take_out-packet-requires-clause-order : goal.take_out-packet-requires-clause-order
-take_out-packet-requires-clause-order c =
+pub nonzero_rem-place : goal.nonzero_rem-place
+nonzero_rem-place c =
     let s = c.self.inside in
-    Increases-weaker s.consumed 0 (seqs_of s.kept.items) (omega arith) (ahead_of s.depth s.packet s.consumed s.run s.kept.items _ s.spare.items _ c.self.invariant)
+    let found = kept_from s.depth s.packet s.consumed s.slots.items c.args.seq (subst (λ (t : Ring). Contains (numbers t.kept) c.args.seq) (sym c.self.view_is) c.requires) in
+    omega (arith, found.0, found.1)
 
-pub take_out-packet-requires-clause-there : goal.take_out-packet-requires-clause-there
-take_out-packet-requires-clause-there c =
+pub index_mut-requires : goal.index_mut-requires
+index_mut-requires c =
     let s = c.self.inside in
-    subst (λ l. Contains l c.args.seq) (numbers_are s.kept.items) (subst (λ (t : Ring). Contains (numbers t.kept) c.args.seq) (sym c.self.view_is) c.requires)
+    let found = kept_from s.depth s.packet s.consumed s.slots.items c.args.seq (subst (λ (t : Ring). Contains (numbers t.kept) c.args.seq) (sym c.self.view_is) c.requires) in
+    let within = place_within s.slots.items s.depth c.args.seq c.self.invariant.count (omega (arith, found.0, found.1)) in
+    omega (arith, within, s.slots.ok.0)
 
 pub overflow_sub-seq : goal.overflow_sub-seq
 overflow_sub-seq c =
     let s = c.self.inside in
-    out_low s.depth s.packet s.consumed s.run s.kept.items _ s.spare.items _ c.args.seq c.take_out-packet.result c.take_out-packet.new.kept.items c.self.invariant c.take_out-packet.ensures.items
+    let found = kept_from s.depth s.packet s.consumed s.slots.items c.args.seq (subst (λ (t : Ring). Contains (numbers t.kept) c.args.seq) (sym c.self.view_is) c.requires) in
+    omega (arith, found.0)
+
+pub top_from-self-inside-requires-clause-top : goal.top_from-self-inside-requires-clause-top
+top_from-self-inside-requires-clause-top c = let s = c.self.inside in top_low s.depth s.packet s.consumed s.run s.top s.slots.items c.self.invariant
 
 pub invariant_of-self : goal.invariant_of-self
 invariant_of-self c =
     let s = c.self.inside in
-    sound_back s.depth s.packet s.consumed s.run s.kept.items _ s.spare.items _ c.args.seq c.take_out-packet.result c.take_out-packet.new.kept.items c.self.invariant c.take_out-packet.ensures.items
-    c.min-self-inside.result _ c.push_reserved.new.self.items _ c.min-self-inside.ensures c.push_reserved.ensures.items (omega (arith, c.take_out-packet.ensures.capacity)) (omega (arith, c.push_reserved.ensures.capacity))
+    let old = c.index_mut.result.now in
+    let free : Slot = record { kept = false; last = old.last; payload = old.payload } in
+    let there = subst (λ (t : Ring). Contains (numbers t.kept) c.args.seq) (sym c.self.view_is) c.requires in
+    let found = kept_from s.depth s.packet s.consumed s.slots.items c.args.seq there in
+    let within = place_within s.slots.items s.depth c.args.seq c.self.invariant.count (omega (arith, found.0, found.1)) in
+    let most = c.top_from-self-inside.result in
+    sound_back s.depth s.packet s.consumed s.run s.top s.slots.items c.self.invariant c.args.seq there free refl
+    (slot_room s.depth s.packet s.consumed s.run s.top s.slots.items c.self.invariant (c.args.seq % s.depth) old within c.index_mut.ensures.value)
+    c.min-self-inside.result most c.min-self-inside.ensures c.top_from-self-inside.ensures.low c.top_from-self-inside.ensures.within
+    (subst (λ (l : List Slot). s.consumed < most → is_some (packet_at l s.depth most) ≡ true) c.as_slice.ensures.value c.top_from-self-inside.ensures.here)
+    (subst (λ (l : List Slot). (k : ℕ) → most < k → k ≤ s.top → is_some (packet_at l s.depth k) ≡ false) c.as_slice.ensures.value c.top_from-self-inside.ensures.none)
 
 pub returns : goal.returns
 returns c =
     let s = c.self.inside in
-    ring_back s.depth s.packet s.consumed s.run s.kept.items _ s.spare.items _ c.args.seq c.take_out-packet.result c.take_out-packet.new.kept.items c.self.invariant c.take_out-packet.ensures.items
-    ∙ ap (without c.args.seq) c.self.view_is
+    let old = c.index_mut.result.now in
+    let free : Slot = record { kept = false; last = old.last; payload = old.payload } in
+    let there = subst (λ (t : Ring). Contains (numbers t.kept) c.args.seq) (sym c.self.view_is) c.requires in
+    ring_without s.depth s.packet s.consumed s.run s.top s.slots.items c.self.invariant c.args.seq there free refl ∙ ap (without c.args.seq) c.self.view_is
