@@ -90,18 +90,11 @@ nothing_assembles = record {
   front = record { parts = []; groups = []; pending = []; all = refl; each = tt; read = refl; whole = tt; spell = tt; begun = tt; left = refl; between = λ _. refl };
 }
 
-stands : (held : Held) (payloads : List (List ℕ)) (h : IsHeld held payloads) → Stands held payloads h.rows
-stands held payloads h = record { sound = λ _. h.assemble; faulty = λ is. absurd (by held.fault h.fine is) }
-  where
-    by : (o : Option ℕ) → o ≡ None → IsSome o → ⊥
-    by None none is = cc
-    by (Some k) none is = cc
-
 -- ---- at first
 
-fresh_held : (place : ℕ) (d : Held) → place < length (fresh_streams 65) → get_or (fresh_streams 65) place d ≡ record { rest = []; ended = false; fault = None }
+fresh_held : (place : ℕ) (d : Held) → place < length (fresh_streams 65) → get_or (fresh_streams 65) place d ≡ record { rest = []; ended = false }
 fresh_held place d lt =
-    let none : Held = record { rest = []; ended = false; fault = None } in
+    let none : Held = record { rest = []; ended = false } in
     let many : length (fresh_streams 65) ≡ 65 = length-replicate 65 none in
     get_or-replicate 65 place none d (omega (arith, lt, many))
 
@@ -113,7 +106,7 @@ fresh_lets motion streams rows log is none off =
       held = λ _ place d lt.
           subst (λ l. IsHeld (get_or streams place d) (payloads_from (sender_at place) l)) (sym parcels)
           (subst (λ h. IsHeld h []) (sym (ap (λ l. get_or l place d) is ∙ fresh_held place d (subst (λ l. place < length l) is lt)))
-          (record { rows = []; assemble = nothing_assembles; fine = refl }));
+          (record { rows = []; assemble = nothing_assembles }));
       malformed = λ sender bad. cc;
       done = λ bad. cc;
       going = λ _. no_end motion log off;
@@ -193,8 +186,7 @@ moved_lets : (motion : ℕ) (old new : List Held) (rows more : List (List Value)
 moved_lets motion old new rows more log p h (among, held, given, written, grown, feeds) =
     let parcels = parcels_of motion log in
     let was = held_of motion old rows log p held h among in
-    let fed = feeds held in
-    let goes : Assembles (payloads_from p.from parcels ++ p.payload ∷ []) (was.rows ++ given) held.rest held.ended = fed.goes (payloads_from p.from parcels) was.rows (stands (get_or old (place_of p.from) held) (payloads_from p.from parcels) was) in
+    let goes : Assembles (payloads_from p.from parcels ++ p.payload ∷ []) (was.rows ++ given) held.rest held.ended = feeds held (payloads_from p.from parcels) was.rows was.assemble in
     let is : Assembles (payloads_from p.from (parcels ++ p ∷ [])) (was.rows ++ given) held.rest held.ended =
     subst (λ l. Assembles l (was.rows ++ given) held.rest held.ended) (sym (payloads-same p.from parcels p refl)) goes in
     record {
@@ -205,22 +197,22 @@ moved_lets motion old new rows more log p h (among, held, given, written, grown,
       held = λ _ place d lt.
           subst (λ l. IsHeld (get_or new place d) (payloads_from (sender_at place) l)) (sym (parcels-taken motion log p))
           (subst (λ l. IsHeld (get_or l place d) (payloads_from (sender_at place) (parcels ++ p ∷ []))) (sym written)
-          (at place d (subst (λ l. place < length l) written lt) was.rows fed.fine is));
+          (at place d (subst (λ l. place < length l) written lt) was.rows is));
       malformed = λ sender bad. cc;
       done = λ bad. cc;
       going = λ _. no_more_end motion old rows log p h;
     }
   where
-    at : (place : ℕ) (d : Held) → place < length (set old (place_of p.from) held) → (done : List (List Value)) → held.fault ≡ None
+    at : (place : ℕ) (d : Held) → place < length (set old (place_of p.from) held) → (done : List (List Value))
         → Assembles (payloads_from p.from (parcels_of motion log ++ p ∷ [])) (done ++ given) held.rest held.ended
         → IsHeld (get_or (set old (place_of p.from) held) place d) (payloads_from (sender_at place) (parcels_of motion log ++ p ∷ []))
-    at place d lt done fine is =
+    at place d lt done is =
         elim (eqb_tells place (place_of p.from)) [
           | inl w ↦
               let here : get_or (set old (place_of p.from) held) place d ≡ held = ap (λ k. get_or (set old (place_of p.from) held) k d) w.1 ∙ get_or-set_same old (place_of p.from) held d among.1 in
               let sender : p.from ≡ sender_at place = among.0 ∙ ap sender_at (sym w.1) in
               subst (λ x. IsHeld x (payloads_from (sender_at place) (parcels_of motion log ++ p ∷ []))) (sym here)
-              (subst (λ s. IsHeld held (payloads_from s (parcels_of motion log ++ p ∷ []))) sender (record { rows = done ++ given; assemble = is; fine = fine }))
+              (subst (λ s. IsHeld held (payloads_from s (parcels_of motion log ++ p ∷ []))) sender (record { rows = done ++ given; assemble = is }))
           | inr w ↦
               let there : get_or (set old (place_of p.from) held) place d ≡ get_or old place d = get_or-set_other old (place_of p.from) place held d w.1 in
               let same : payloads_from (sender_at place) (parcels_of motion log ++ p ∷ []) ≡ payloads_from (sender_at place) (parcels_of motion log) =
@@ -233,10 +225,10 @@ malformed_lets : (motion : ℕ) (old new : List Held) (rows more : List (List Va
     → Gains p old new rows more (Err (why.Malformed sender)) → Lets motion new more (courses.Refused (why.Malformed sender)) (log ++ taken_entry motion p ∷ [])
 malformed_lets motion old new rows more log p sender h (among, from, same, bad) =
     let parcels = parcels_of motion log in
-    let d : Held = record { rest = []; ended = false; fault = None } in
+    let d : Held = record { rest = []; ended = false } in
     let was = held_of motion old rows log p d h among in
     let no_stream : IsStream (payloads_from p.from (parcels ++ p ∷ [])) → ⊥ =
-    λ stream. bad d was.fine (payloads_from p.from parcels) was.rows (stands (get_or old (place_of p.from) d) (payloads_from p.from parcels) was) (subst IsStream (payloads-same p.from parcels p refl) stream) in
+    λ stream. bad d (payloads_from p.from parcels) was.rows was.assemble (subst IsStream (payloads-same p.from parcels p refl) stream) in
     record {
       lets_out = λ _. subst (λ l. LetsOut l more) (sym (parcels-taken motion log p)) (subst (LetsOut (parcels ++ p ∷ [])) (sym same) (spoils parcels p rows (h.lets_out (λ x. cc)) no_stream));
       held = λ fine. absurd fine;

@@ -96,7 +96,7 @@ pub record Gathering : Type 0 where
 
 -- nothing held of so many streams
 abbrev pub fresh_streams : ℕ → List Held
-fresh_streams count = replicate count (record { rest = []; ended = false; fault = None })
+fresh_streams count = replicate count (record { rest = []; ended = false })
 
 -- before the first turn; a stream for each number that a segment may have
 abbrev pub fresh : ℕ → Gathering
@@ -121,8 +121,7 @@ IsFine (courses.Refused no_) = ⊥
 -- this is held of a sender whose payloads are these: they are the front of a stream
 pub record IsHeld (held : Held) (payloads : List (List ℕ)) : Type 0 where
   pub rows : List (List Value)
-  pub assemble : Assembles payloads rows held.rest held.ended
-  pub fine : held.fault ≡ None
+  pub assemble : Stands held payloads rows
 
 -- How the log stands to the rows let out of a motion, with this held of its senders. The rows are those that the parcels
 -- let out, in the order in which they were taken; while nothing was refused, each sender's payloads are the front of a
@@ -141,13 +140,12 @@ Gathers s log = Lets s.motion s.streams s.rows s.course log
 -- ---- one parcel
 
 -- a stream was fed a payload, and gave these rows
-pub record Feeds (old new : Held) (payload : List ℕ) (given : List (List Value)) : Type 0 where
-  pub goes : (payloads : List (List ℕ)) (rows : List (List Value)) → Stands old payloads rows → Assembles (payloads ++ payload ∷ []) (rows ++ given) new.rest new.ended
-  pub fine : new.fault ≡ None
+abbrev pub Feeds : (old new : Held) → List ℕ → List (List Value) → Type 0
+Feeds old new payload given = (payloads : List (List ℕ)) (rows : List (List Value)) → Stands old payloads rows → Stands new (payloads ++ payload ∷ []) (rows ++ given)
 
 -- it was fed a payload with which it is no stream
 abbrev pub Spoils : Held → List ℕ → Type 0
-Spoils old payload = old.fault ≡ None → (payloads : List (List ℕ)) (rows : List (List Value)) → Stands old payloads rows → IsStream (payloads ++ payload ∷ []) → ⊥
+Spoils old payload = (payloads : List (List ℕ)) (rows : List (List Value)) → Stands old payloads rows → IsStream (payloads ++ payload ∷ []) → ⊥
 
 -- one of these streams is of this sender
 abbrev pub IsAmong : ℤ → List Held → Type 0

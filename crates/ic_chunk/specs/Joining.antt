@@ -1,28 +1,19 @@
 -- A joiner, and what it was fed.
-use Rattle.std.specs.Prelude.{◌≡◌, ◌≢◌, ℕ, min, length, drop, List, [], ◌++◌, Bool, true, false, Option, Some, None, IsSome, Result, Ok, Err}
+use Rattle.std.specs.Prelude.{◌≡◌, ◌≢◌, ℕ, min, length, drop, List, [], ◌++◌, Bool, true, false, Option, Some, None}
 use Rattle.std.specs.List.{AllByRecursion}
 use Rattle.ic_row.specs.declared.value.Value.{Value}
-use Rattle.ic_chunk.specs.declared.joiner.Fed.{Fed}
-use Rattle.ic_chunk.specs.declared.fault.FeedNo.{FeedNo}
 use Rattle.ic_chunk.specs.Chunks.{Chunk, IsChunk, payload_of}
 use Rattle.ic_chunk.specs.Reading.{Standing, Step, chunk_at, goes_on, run}
-use Rattle.ic_chunk.specs.Assembly.{Assembles, IsStream}
+use Rattle.ic_chunk.specs.Assembly.{Assembles}
 
--- what a joiner keeps: the bytes of a row that has begun, whether the stream has ended, and the fault that it found
+-- what a joiner keeps: the bytes of a row that has begun, and whether the stream has ended
 pub record Held : Type 0 where
   pub rest : List ℕ
   pub ended : Bool
-  pub fault : Option ℕ
 
--- this is what a joiner keeps that was fed these payloads and gave these rows
-pub record Stands (held : Held) (payloads : List (List ℕ)) (rows : List (List Value)) : Type 0 where
-  pub sound : held.fault ≡ None → Assembles payloads rows held.rest held.ended
-  pub faulty : IsSome held.fault → IsStream payloads → ⊥
-
--- the rows that an answer gives
-abbrev pub rows_of : Result Fed FeedNo → List (List Value)
-rows_of (Ok fed) = fed.rows
-rows_of (Err no_rows) = []
+-- this is what a joiner keeps that took these payloads and gave these rows
+abbrev pub Stands : Held → List (List ℕ) → List (List Value) → Type 0
+Stands held payloads rows = Assembles payloads rows held.rest held.ended
 
 -- a number as it is told in four bytes: the greatest that they hold in place of each that is greater
 abbrev pub told : ℕ → ℕ

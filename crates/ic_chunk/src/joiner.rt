@@ -1,5 +1,5 @@
 // Payloads to rows.
-ghost use Rattle.std.specs.Prelude.{◌≡◌, ◌≢◌, ℕ, List, [], ◌∷◌, ◌++◌, length, drop, false, None, Some, IsNone, IfOk, OnOk, IsErrOf, Err};
+ghost use Rattle.std.specs.Prelude.{◌≡◌, ℕ, List, [], ◌∷◌, ◌++◌, length, drop, false, IfOk, OnErr, IsErrOf};
 ghost use Rattle.ic_row.specs.Values.{Datum};
 ghost use Rattle.ic_chunk.specs.Seen.{IsBytes};
 
@@ -21,15 +21,13 @@ pub struct Fed {
 
 /// The receiving end of one stream of chunks. Feed it the payloads of one sender in the order of their packets.
 ///
-/// It keeps the bytes of a row that has begun and of no other. After a `ChunkFault` it keeps nothing, and answers the
-/// same from then on.
+/// It keeps the bytes of a row that has begun and of no other. A payload that it refuses leaves it as it was, so that it
+/// goes on with the next one.
 #[derive(Drop)]
 pub struct Joiner {
     /// The bytes of a row that has begun.
     rest: Vec<u8>,
     ended: bool,
-    /// The chunk of the first fault.
-    fault: Option<u32>,
 }
 
 impl Model for Joiner {
@@ -37,50 +35,39 @@ impl Model for Joiner {
 
     ghost Value = { Held };
 
-    ghost view = { λ j. record { rest = j.rest.items; ended = j.ended; fault = j.fault } };
+    ghost view = { λ j. record { rest = j.rest.items; ended = j.ended } };
 }
 
 impl Joiner {
-    ghost use Rattle.ic_chunk.specs.Assembly.{Assembles, IsStream, IsFaultAt};
-    ghost use Rattle.ic_chunk.specs.Joining.{Held, Stands, IsTold, rows_of};
+    ghost use Rattle.ic_chunk.specs.Assembly.{IsStream, IsFaultAt};
+    ghost use Rattle.ic_chunk.specs.Joining.{Held, Stands, IsTold};
 
     /// A joiner that was fed nothing. Takes no memory.
     pub fn new(alloc: Global) -> Joiner
-        ensures value { result ≡ record { rest = []; ended = false; fault = None } }
+        ensures value { result ≡ record { rest = []; ended = false } }
         ensures stands { Stands result [] [] }
     {
         Joiner {
             rest: Vec::new(alloc),
             ended: false,
-            fault: None,
         }
     }
 
     /// Takes the next payload: walks its chunks once, and copies the bodies of starts, middles and ends once.
+    ///
+    /// `ChunkFault` is the sender's doing, or that of whoever fed the payloads in another order.
     pub fn feed(&mut self, alloc: Global, payload: &[u8]) -> Result<Fed, FeedNo>
-        // The payloads so far with this one assemble to the rows so far and these.
+        // The payloads so far with this one assemble to the rows so far and these, and to what is kept.
         ensures ok { IfOk result (λ fed. (payloads : List (List ℕ)) (rows : List (List Datum))
-            → Stands self.old payloads rows
-            → Assembles (payloads ++ payload.now ∷ []) (rows ++ fed.rows) self.new.rest fed.ended) }
-        ensures ended { IfOk result (λ fed. (self.new.ended ≡ fed.ended) × IsNone self.new.fault) }
+            → Stands self.old payloads rows → Stands self.new (payloads ++ payload.now ∷ []) (rows ++ fed.rows)) }
+        ensures ended { IfOk result (λ fed. self.new.ended ≡ fed.ended) }
 
         // They are the front of no stream, and this chunk of the payload is the first that doesn't go on with it.
-        ensures fault { (k : ℕ) → IsErrOf result (FeedNo.ChunkFault k) → IsNone self.old.fault
+        ensures fault { (k : ℕ) → IsErrOf result (FeedNo.ChunkFault k)
             → (payloads : List (List ℕ)) (rows : List (List Datum)) → Stands self.old payloads rows
             → (IsStream (payloads ++ payload.now ∷ []) → ⊥) × IsTold (IsFaultAt payloads payload.now) k }
-        ensures emptied { (k : ℕ) → IsErrOf result (FeedNo.ChunkFault k) → IsNone self.old.fault
-            → self.new ≡ record self.old { rest = []; fault = Some k } }
-        ensures again { (k : ℕ) → self.old.fault ≡ Some k
-            → (self.new ≡ self.old) × (result ≡ Err (FeedNo.ChunkFault k)) }
-
-        ensures memory { IsErrOf result FeedNo.Memory → self.new ≡ self.old }
-        ensures stands { result ≢ Err FeedNo.Memory
-            → (payloads : List (List ℕ)) (rows : List (List Datum)) → Stands self.old payloads rows
-            → Stands self.new (payloads ++ payload.now ∷ []) (rows ++ rows_of result) }
+        ensures err { OnErr result (self.new ≡ self.old) }
     {
-        if let Some(chunk) = self.fault {
-            return Err(FeedNo::ChunkFault { chunk });
-        }
         let kept = len_of(self.rest.as_slice());
         let mut draft = Draft {
             bytes: mem::replace(&mut self.rest, Vec::new(alloc)),
@@ -90,13 +77,9 @@ impl Joiner {
         };
         match draft.read(alloc, payload) {
             Ok(()) => Ok(self.keep(draft)),
-            Err(FeedNo::ChunkFault { chunk }) => {
-                self.fault = Some(chunk);
-                Err(FeedNo::ChunkFault { chunk })
-            }
-            Err(FeedNo::Memory) => {
+            Err(fault) => {
                 self.rest = draft.taken_back(kept);
-                Err(FeedNo::Memory)
+                Err(fault)
             }
         }
     }

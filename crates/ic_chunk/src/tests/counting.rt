@@ -21,21 +21,3 @@ fn rows_end_with_whole_chunks_and_ends(rt: HostRuntime) {
         assert_eq!(rt; (what, rows_ended(payload)), (what, rows));
     }
 }
-
-#[test]
-fn what_is_cut_off_ends_nothing(rt: HostRuntime) {
-    assert_eq!(rt; rows_ended(b"\x00\x03\x00"), 0);
-    assert_eq!(rt; rows_ended(b"\x00\x03\x00\x00\x00\x01"), 0);
-    assert_eq!(rt; rows_ended(b"\x00\x01\x00\x00\x07\x00\x05\x00\x00\x07"), 1);
-}
-
-#[test]
-fn a_count_stands_still_at_its_end(rt: HostRuntime) {
-    let two = b"\x00\x01\x00\x00\x07\x00\x01\x00\x03\x07";
-    assert_eq!(rt; count_more(0, two), 2);
-    assert_eq!(rt; count_more(5, b""), 5);
-    assert_eq!(rt;
-        count_more(18_446_744_073_709_551_614, two),
-        18_446_744_073_709_551_615
-    );
-}
