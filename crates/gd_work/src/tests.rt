@@ -4,12 +4,16 @@ ghost use Rattle.std.specs.List.{All};
 ghost use Rattle.ic_base.specs.Ports.{SendsTo, Hears};
 ghost use Rattle.ic_row.specs.Spelling.{HasLengths};
 
+mod script;
+
 use crate::{Gatherer, Scanner, Turned, WorkNo};
 use ic_base::{
-    Bytes, ConnEnd, ConnEnds, ConnKey, Parcel, PortAsk, PortEntry, PortNo, PortReply, ScriptPort,
-    SegId, Text,
+    Bytes, ConnEnd, ConnEnds, ConnKey, Parcel, PortAsk, PortEntry, PortNo, PortReply, SegId,
+    Text,
 };
+
 use ic_row::{Row, Rows, Value};
+use script::ScriptPort;
 use std::alloc::{AllocError, Global};
 use std::test::Fail;
 

@@ -1,5 +1,5 @@
 -- The port of a slice worker: its connections, the log of its calls, and why a call may be refused.
-use Rattle.std.specs.Prelude.{◌≡◌, ℕ, ◌+◌, ◌-◌, ◌^◌, ◌≤◌, min, ℤ, List, [], ◌∷◌, ◌++◌, Any, drop, true, false, Result, Ok, Err}
+use Rattle.std.specs.Prelude.{◌≡◌, ℕ, ◌+◌, ◌-◌, ◌^◌, ◌≤◌, min, ℤ, List, [], ◌∷◌, ◌++◌, Any, true, false, Result, Ok, Err}
 use Rattle.ic_base.specs.declared.keys.ConnKey.{ConnKey}
 use Rattle.ic_base.specs.declared.keys.ConnEnd.{ConnEnd}
 use Rattle.ic_base.specs.declared.datagram.Parcel.{Parcel}
@@ -96,38 +96,3 @@ MayRefuseHalt Ended = ⊥
 MayRefuseHalt (TooLong key) = ⊥
 MayRefuseHalt Busy = Unit {0}
 MayRefuseHalt Memory = Unit {0}
-
--- ---- a port over a script
-
--- its connections, the replies that are left, its log, and how often it answered Busy
-pub record Scripted : Type 0 where
-  pub keys : List ConnEnd
-  pub left : List PortReply
-  pub log : List PortEntry
-  pub busy : ℕ
-
--- before the first call
-abbrev pub scripted : List ConnEnd → List PortReply → Scripted
-scripted keys script = record { keys = keys; left = script; log = []; busy = 0 }
-
--- the reply that is next, and Memory where the script is over
-abbrev pub next_reply : List PortReply → PortReply
-next_reply [] = Refused Memory
-next_reply (reply ∷ left) = reply
-
--- the reply is the one that is next in the script, or Memory
-abbrev pub Follows : PortReply → PortReply → Type 0
-Follows next reply = (reply ≡ Refused Memory → ⊥) → reply ≡ next
-
--- the count after a reply
-abbrev pub busy_after : PortReply → ℕ → ℕ
-busy_after (Refused Busy) n = one_more_busy n
-busy_after reply n = n
-
--- the next reply was taken out
-abbrev pub without_next : Scripted → Scripted
-without_next s = record s { left = drop 1 s.left }
-
--- a call and its reply stand in the log, or in the count of Busy
-abbrev pub noted : PortAsk → PortReply → Scripted → Scripted
-noted ask reply s = record s { log = logged ask reply s.log; busy = busy_after reply s.busy }

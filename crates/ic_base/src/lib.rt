@@ -9,7 +9,6 @@ mod datagram;
 mod drops;
 mod keys;
 mod port;
-mod script;
 mod settings;
 #[cfg(test)]
 mod tests;
@@ -20,6 +19,5 @@ pub use datagram::{Datagram, Datagrams, Parcel};
 pub use drops::Drops;
 pub use keys::{BeginNo, ConnEnd, ConnEnds, ConnKey, SegId, Segs};
 pub use port::{Port, PortAsk, PortEntries, PortEntry, PortNo, PortReply};
-pub use script::ScriptPort;
 pub use settings::{Field, Flow, OutOfRange, Settings};
 pub use text::Text;

@@ -1,42 +1,32 @@
 // A port whose replies are given beforehand.
-ghost use Rattle.std.specs.Prelude.{◌≡◌, ◌↔◌, length, drop, IsTrue, true, IfOk, IfErr, OnOk, OnErr, Ok, Err};
+ghost use Rattle.std.specs.Prelude.{◌≡◌, ◌↔◌, ◌⊎◌, IsTrue, true, IfOk, IfErr, OnOk, OnErr, Ok, Err};
+ghost use Rattle.ic_base.specs.declared.port.PortNo.TheVariants.{Memory};
 ghost use Rattle.ic_base.specs.declared.port.PortAsk.TheVariants.{Put, Finish, Take, TakeFrom, Halt};
-ghost use Rattle.ic_base.specs.declared.port.PortReply.TheVariants.{Refused};
-ghost use Rattle.ic_base.specs.Ports.{SendsTo, SendsAs, HearsFrom, Hears, did, gave, logged, CountsBusy, MayRefusePut, MayRefuseTake, MayRefuseHalt};
-ghost use Rattle.ic_base.specs.Ports.{scripted, next_reply, Follows, without_next, noted};
+ghost use Rattle.ic_base.specs.Ports.{SendsAs, HearsFrom, did, gave, logged, CountsBusy, MayRefusePut, MayRefuseTake, MayRefuseHalt};
 
-use crate::bytes::Bytes;
-use crate::datagram::Parcel;
-use crate::keys::{ConnEnd, ConnEnds, ConnKey, SegId};
-use crate::port::{Port, PortAsk, PortEntries, PortEntry, PortNo, PortReply};
+use ic_base::{
+    Bytes, ConnEnd, ConnEnds, ConnKey, Parcel, Port, PortAsk, PortEntries, PortEntry, PortNo,
+    PortReply, SegId,
+};
 use std::alloc::{AllocError, Global};
 use std::collections::VecDeque;
-use std::marker::Model;
 
 /// A port over a list of replies, for tests of code over any port. There is no hub behind it.
 ///
 /// Each call takes the next reply out of the script and answers it, where this call may be answered so: a parcel only
 /// from a sender that it may come from. Else, and where the script is over or memory is wanting, it answers `Memory`.
 #[derive(Drop)]
-pub struct ScriptPort {
+pub(crate) struct ScriptPort {
     keys: ConnEnds,
     left: VecDeque<PortReply>,
     log: PortEntries,
     busy: u64,
 }
 
-impl Model for ScriptPort {
-    ghost use Rattle.ic_base.specs.Ports.{Scripted};
-
-    ghost Value = { Scripted };
-
-    ghost view = { λ p. record { keys = p.keys; left = p.left.items; log = p.log; busy = p.busy } };
-}
-
 impl ScriptPort {
     /// A port of these connections that answers these replies. Takes no memory.
-    pub fn new(alloc: Global, keys: ConnEnds, script: Vec<PortReply>) -> ScriptPort
-        ensures { result ≡ scripted keys script.items }
+    pub(crate) fn new(alloc: Global, keys: ConnEnds, script: Vec<PortReply>) -> ScriptPort
+        ensures { result.keys ≡ keys }
     {
         ScriptPort {
             keys,
@@ -47,22 +37,19 @@ impl ScriptPort {
     }
 
     /// Its calls with their replies, but those that were answered `Busy` or `Memory`.
-    pub fn log(&self) -> &[PortEntry]
-        ensures { result.now ≡ self.now.log }
+    pub(crate) fn log(&self) -> &[PortEntry]
     {
         self.log.as_slice()
     }
 
     /// How often it has answered `Busy`.
-    pub fn busy(&self) -> u64
-        ensures { result ≡ self.now.busy }
+    pub(crate) fn busy(&self) -> u64
     {
         self.busy
     }
 
     /// How many replies are left.
-    pub fn left(&self) -> usize
-        ensures { result ≡ length self.now.left }
+    pub(crate) fn left(&self) -> usize
     {
         self.left.len()
     }
@@ -95,7 +82,6 @@ impl ScriptPort {
 
     /// The refusal, where a put or a finish may be refused so.
     fn sent_or_memory(&self, motion: u32, to: SegId, no: PortNo) -> Result<(), PortNo>
-        ensures follows { Follows (Refused no) (did result) }
         ensures refusals { IfErr result (MayRefusePut self.now.keys motion to) }
     {
         if self.may_refuse_put(motion, to, &no) {
@@ -106,8 +92,9 @@ impl ScriptPort {
     }
 
     fn next(&mut self) -> PortReply
-        ensures reply { result ≡ next_reply self.old.left }
-        ensures left { self.new ≡ without_next self.old }
+        ensures keys { self.new.keys ≡ self.old.keys }
+        ensures log { self.new.log ≡ self.old.log }
+        ensures busy { self.new.busy ≡ self.old.busy }
     {
         match self.left.pop_front() {
             Some(reply) => reply,
@@ -117,8 +104,9 @@ impl ScriptPort {
 
     /// The next answer to a put or a finish.
     fn next_sent(&mut self, motion: u32, to: SegId) -> Result<(), PortNo>
-        ensures follows { Follows (next_reply self.old.left) (did result) }
-        ensures left { self.new ≡ without_next self.old }
+        ensures keys { self.new.keys ≡ self.old.keys }
+        ensures log { self.new.log ≡ self.old.log }
+        ensures busy { self.new.busy ≡ self.old.busy }
         ensures refusals { IfErr result (MayRefusePut self.old.keys motion to) }
     {
         match done_of(self.next()) {
@@ -129,8 +117,9 @@ impl ScriptPort {
 
     /// The next answer to a halt.
     fn next_halted(&mut self) -> Result<(), PortNo>
-        ensures follows { Follows (next_reply self.old.left) (did result) }
-        ensures left { self.new ≡ without_next self.old }
+        ensures keys { self.new.keys ≡ self.old.keys }
+        ensures log { self.new.log ≡ self.old.log }
+        ensures busy { self.new.busy ≡ self.old.busy }
         ensures refusals { IfErr result MayRefuseHalt }
     {
         match self.next() {
@@ -142,8 +131,9 @@ impl ScriptPort {
 
     /// The next answer to a take of any sender.
     fn next_taken(&mut self, motion: u32) -> Result<Parcel, PortNo>
-        ensures follows { Follows (next_reply self.old.left) (gave result) }
-        ensures left { self.new ≡ without_next self.old }
+        ensures keys { self.new.keys ≡ self.old.keys }
+        ensures log { self.new.log ≡ self.old.log }
+        ensures busy { self.new.busy ≡ self.old.busy }
         ensures refusals { IfErr result MayRefuseTake }
         ensures from { IfOk result (λ parcel. HearsFrom self.old.keys motion parcel.from) }
     {
@@ -156,7 +146,8 @@ impl ScriptPort {
 
     /// Notes a call and its reply.
     fn note(&mut self, ask: PortAsk, reply: PortReply) -> Result<(), AllocError>
-        ensures ok { OnOk result (self.new ≡ noted ask reply self.old) }
+        ensures keys { self.new.keys ≡ self.old.keys }
+        ensures ok { OnOk result (self.new.log ≡ logged ask reply self.old.log) }
         ensures err { OnErr result (self.new ≡ self.old) }
         ensures busy { OnOk result (CountsBusy self.old.busy self.new.busy reply) }
     {
@@ -170,8 +161,9 @@ impl ScriptPort {
 
     /// Notes a call that gives no parcel, and gives its answer.
     fn close_did(&mut self, ask: PortAsk, answer: Result<(), PortNo>) -> Result<(), PortNo>
-        ensures follows { Follows (did answer) (did result) }
-        ensures state { self.new ≡ noted ask (did result) self.old }
+        ensures refusal { IfErr result (λ no. (no ≡ Memory) ⊎ (answer ≡ Err no)) }
+        ensures keys { self.new.keys ≡ self.old.keys }
+        ensures log { self.new.log ≡ logged ask (did result) self.old.log }
         ensures busy { CountsBusy self.old.busy self.new.busy (did result) }
     {
         match &answer {
@@ -183,8 +175,10 @@ impl ScriptPort {
 
     /// Notes a call that gives a parcel, and gives its answer.
     fn close_gave(&mut self, ask: PortAsk, answer: Result<Parcel, PortNo>) -> Result<Parcel, PortNo>
-        ensures follows { Follows (gave answer) (gave result) }
-        ensures state { self.new ≡ noted ask (gave result) self.old }
+        ensures parcel { IfOk result (λ parcel. answer ≡ Ok parcel) }
+        ensures refusal { IfErr result (λ no. (no ≡ Memory) ⊎ (answer ≡ Err no)) }
+        ensures keys { self.new.keys ≡ self.old.keys }
+        ensures log { self.new.log ≡ logged ask (gave result) self.old.log }
         ensures busy { CountsBusy self.old.busy self.new.busy (gave result) }
     {
         match answer {
@@ -232,7 +226,6 @@ fn done_of(reply: PortReply) -> Result<(), PortNo>
 
 /// The parcel of a reply to a take.
 fn parcel_of(reply: PortReply) -> Result<Parcel, PortNo>
-    ensures follows { Follows reply (gave result) }
     ensures refusals { IfErr result MayRefuseTake }
 {
     match reply {
@@ -251,15 +244,13 @@ impl Port for ScriptPort {
 
     ghost busy = { λ p. p.busy };
 
-    ghost steps = { λ a b. b.left ≡ drop 1 a.left };
+    ghost steps = { λ a b. b.keys ≡ a.keys };
 
     fn put(&mut self, alloc: Global, motion: u32, to: SegId, chunk: &[u8]) -> Result<(), PortNo>
         ensures keys { self.new.keys ≡ self.old.keys }
         ensures log { self.new.log ≡ logged (Put motion to chunk.now) (did result) self.old.log }
         ensures busy { CountsBusy self.old.busy self.new.busy (did result) }
         ensures refusals { IfErr result (MayRefusePut self.old.keys motion to) }
-        ensures follows { Follows (next_reply self.old.left) (did result) }
-        ensures state { self.new ≡ noted (Put motion to chunk.now) (did result) (without_next self.old) }
     {
         let answer = self.next_sent(motion, to);
         let chunk = Bytes::from_slice(alloc, chunk)?;
@@ -271,8 +262,6 @@ impl Port for ScriptPort {
         ensures log { self.new.log ≡ logged (Finish motion to) (did result) self.old.log }
         ensures busy { CountsBusy self.old.busy self.new.busy (did result) }
         ensures refusals { IfErr result (MayRefusePut self.old.keys motion to) }
-        ensures follows { Follows (next_reply self.old.left) (did result) }
-        ensures state { self.new ≡ noted (Finish motion to) (did result) (without_next self.old) }
     {
         let answer = self.next_sent(motion, to);
         self.close_did(PortAsk::Finish { motion, to }, answer)
@@ -284,8 +273,6 @@ impl Port for ScriptPort {
         ensures busy { CountsBusy self.old.busy self.new.busy (gave result) }
         ensures refusals { IfErr result MayRefuseTake }
         ensures from { IfOk result (λ parcel. HearsFrom self.old.keys motion parcel.from) }
-        ensures follows { Follows (next_reply self.old.left) (gave result) }
-        ensures state { self.new ≡ noted (Take motion) (gave result) (without_next self.old) }
     {
         let answer = self.next_taken(motion);
         self.close_gave(PortAsk::Take { motion }, answer)
@@ -297,8 +284,6 @@ impl Port for ScriptPort {
         ensures busy { CountsBusy self.old.busy self.new.busy (gave result) }
         ensures refusals { IfErr result MayRefuseTake }
         ensures from { IfOk result (λ parcel. parcel.from ≡ sender) }
-        ensures follows { Follows (next_reply self.old.left) (gave result) }
-        ensures state { self.new ≡ noted (TakeFrom motion sender) (gave result) (without_next self.old) }
     {
         let answer = only_from(sender, parcel_of(self.next()));
         self.close_gave(PortAsk::TakeFrom { motion, sender }, answer)
@@ -309,8 +294,6 @@ impl Port for ScriptPort {
         ensures log { self.new.log ≡ logged (Halt motion sender) (did result) self.old.log }
         ensures busy { CountsBusy self.old.busy self.new.busy (did result) }
         ensures refusals { IfErr result MayRefuseHalt }
-        ensures follows { Follows (next_reply self.old.left) (did result) }
-        ensures state { self.new ≡ noted (Halt motion sender) (did result) (without_next self.old) }
     {
         let answer = self.next_halted();
         self.close_did(PortAsk::Halt { motion, sender }, answer)
@@ -319,7 +302,6 @@ impl Port for ScriptPort {
 
 /// The parcel, where it is from this sender.
 fn only_from(sender: SegId, answer: Result<Parcel, PortNo>) -> Result<Parcel, PortNo>
-    ensures follows { Follows (gave answer) (gave result) }
     ensures from { IfOk result (λ parcel. parcel.from ≡ sender) }
 {
     let parcel = answer?;
