@@ -9,7 +9,7 @@ use Rattle.ic_base.specs.declared.datagram.Datagram.{Datagram}
 use Rattle.ic_base.specs.declared.datagram.Parcel.{Parcel}
 use Rattle.ic_header.proofs.Joining.{reads_spelled}
 use Rattle.ic_law.specs.declared.history.Entry.{Entry}
-use Rattle.ic_law.specs.Packets.{Packet, RowPacket, packet_read, packet_of, key_of, goes_forth}
+use Rattle.ic_header.specs.Packets.{Packet, RowPacket, packet_read, packet_of, key_of, goes_forth}
 use Rattle.ic_law.specs.History.{emits, emitted_of, arrives, arrived_of, rows_in, rows_emitted_of, rows_arrived_of}
 use Rattle.ic_law.specs.Putting.{chunks_put_of, IsFinished}
 use Rattle.ic_law.specs.Taking.{takes, parcels_of, is_last_parcel, IsWhole}

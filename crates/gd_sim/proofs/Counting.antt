@@ -8,7 +8,7 @@ use Rattle.ic_law.specs.declared.history.Entry.{Entry}
 use Rattle.ic_law.specs.History.{emits, rows_in, number_of, greatest, rows_emitted_of, sent_upto}
 use Rattle.ic_law.specs.Putting.{puts, chunks_put_of}
 use Rattle.ic_law.specs.Taking.{takes, payloads_of, payload_in, is_last_parcel, whole_of}
-use Rattle.ic_law.specs.Packets.{RowPacket}
+use Rattle.ic_header.specs.Packets.{RowPacket}
 use Rattle.ic_base.specs.declared.keys.ConnKey.{ConnKey}
 use Rattle.ic_base.specs.declared.datagram.Datagram.{Datagram}
 use Rattle.ic_chunk.specs.Counts.{HaveEnded}

@@ -4,7 +4,7 @@ ghost use Rattle.std.specs.List.{list_any};
 ghost use Rattle.std.specs.Option.{option_to_list};
 ghost use Rattle.ic_base.specs.declared.keys.ConnKey.{ConnKey};
 ghost use Rattle.ic_base.specs.Keys.{key_eq};
-ghost use Rattle.ic_law.specs.Packets.{key_of, is_rows, IsSegment};
+ghost use Rattle.ic_header.specs.Packets.{key_of, is_rows, IsSegment};
 ghost use Rattle.ic_law.specs.History.{rows_in, number_of, rows_emitted_of, sent_upto, greatest};
 ghost use Rattle.ic_law.specs.Putting.{puts, was_given, chunks_put_of};
 ghost use Rattle.ic_law.specs.Taking.{takes, parcels_in, parcels_from, payloads_of, payload_in, is_last_parcel, whole_of};

@@ -5,7 +5,7 @@ use Rattle.std.specs.List.{Contains}
 use Rattle.std.proofs.lemmas.Int.{ints, by_lt_z}
 use Rattle.std.proofs.lemmas.List.{take_more}
 use Rattle.std.proofs.lemmas.List.Elements.{Contains-append_left, Contains-push, Contains-push_cases}
-use Rattle.ic_law.specs.Packets.{IsSegment}
+use Rattle.ic_header.specs.Packets.{IsSegment}
 use Rattle.ic_law.specs.Arriving.{ComesBefore}
 use Rattle.ic_receiver.specs.Receiving.{Receiving, IsReady}
 use Rattle.ic_receiver.specs.Standing.{NotReady}

@@ -16,7 +16,7 @@ use Rattle.ic_law.specs.declared.history.DropCause.TheVariants as cause
 use Rattle.ic_law.specs.declared.history.Entry.{Entry}
 use Rattle.ic_law.specs.Hub.{kind_replied}
 use Rattle.ic_law.specs.Hub.Kind.{Coming}
-use Rattle.ic_law.specs.Packets.{key_of, goes_forth}
+use Rattle.ic_header.specs.Packets.{key_of, goes_forth}
 use Rattle.ic_law.specs.History.{emits, datagrams_of}
 use Rattle.ic_law.specs.Points.{IsDirected}
 use Rattle.ic_law.proofs.Lists.{Contains-none, Contains-one}
@@ -29,7 +29,8 @@ use Rattle.ic_sender.specs.Entries.{IsHearing as IsAnswered, came_of as told}
 use Rattle.ic_timed_sender.specs.Timed.{TimedState, SameEnd}
 use Rattle.ic_timed_sender.specs.Emitted.{IsOutgoingOf}
 use Rattle.ic_timed_sender.specs.Standing.{StandsNext}
-use Rattle.ic_receiver.specs.Receiving.{Receiving, Hears, Stopped, Running, HearsRows, Again, Far, Kept as KeptNow, TellsStored, Next, Gap, HearsQuery, QueryStopped, QueryTold, IsAnswer}
+use Rattle.ic_receiver.specs.Receiving.{Receiving, Hears, Stopped, Running, HearsRows, Again, Far, Kept as KeptNow, TellsStored, Next, Gap, HearsQuery, QueryStopped, QueryTold}
+use Rattle.ic_header.specs.Packets.{IsAnswer}
 use Rattle.ic_receiver.specs.Standing.{Stands as ReceiverStands}
 use Rattle.ic_hub_laws.specs.Entries.{IsOurs, OfArrive}
 use Rattle.ic_hub_laws.specs.Formed.{IsFormedOf}

@@ -14,7 +14,7 @@ use Rattle.ic_law.specs.declared.history.HubReply.TheVariants.{Came}
 use Rattle.ic_law.specs.declared.history.Arrived.TheVariants.{Handled, Dropped}
 use Rattle.ic_law.specs.declared.history.DropCause.TheVariants as cause
 use Rattle.ic_law.specs.declared.history.Entry.{Entry}
-use Rattle.ic_law.specs.Packets.{packet_of, packet_read, key_of}
+use Rattle.ic_header.specs.Packets.{packet_of, packet_read, key_of}
 use Rattle.ic_law.specs.History.{datagrams_of}
 use Rattle.ic_law.specs.Points.{IsFormed, IsHere}
 use Rattle.ic_law.specs.Arriving.{IsForeign, NoSegment, NotHere, Misdirected, OtherSession, NoSuchKey, IsLiveQuery, IsOld}

@@ -11,7 +11,7 @@ use Rattle.ic_header.specs.Spelling.{Heads, words_of, written}
 use Rattle.ic_header.proofs.Joining.{length-written}
 use Rattle.ic_law.specs.declared.history.Arrived.TheVariants.{Handled, Dropped}
 use Rattle.ic_law.specs.declared.history.DropCause.TheVariants as cause
-use Rattle.ic_law.specs.Packets.{key_of, is_rows, is_last}
+use Rattle.ic_header.specs.Packets.{key_of, is_rows, is_last}
 use Rattle.ic_conntab.specs.declared.slots.Sides.{Sides}
 use Rattle.ic_conntab.specs.Table.{Table}
 use Rattle.ic_sender.specs.declared.send_no.SendNo.{SendNo}

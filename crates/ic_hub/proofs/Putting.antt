@@ -15,7 +15,7 @@ use Rattle.ic_law.specs.declared.history.HubNo.{HubNo}
 use Rattle.ic_law.specs.declared.history.HubNo.TheVariants as no
 use Rattle.ic_law.specs.declared.history.Entry.{Entry}
 use Rattle.ic_law.specs.History.{datagrams_of}
-use Rattle.ic_law.specs.Packets.{key_of, IsSegment}
+use Rattle.ic_header.specs.Packets.{key_of, IsSegment}
 use Rattle.ic_law.specs.Points.{Place, IsDirected, IsFormed}
 use Rattle.ic_law.specs.Asking.{IsPuttable, IsAllowed, GoesOn}
 use Rattle.ic_law.specs.Arriving.{unknown}

@@ -4,7 +4,7 @@ use Rattle.std.specs.List.{AllByRecursion, flat_map}
 use Rattle.ic_base.specs.declared.keys.ConnEnd.{ConnEnd}
 use Rattle.ic_base.specs.declared.settings.Settings.{Settings}
 use Rattle.ic_law.specs.declared.history.Entry.{Entry}
-use Rattle.ic_law.specs.Packets.{IsSegment}
+use Rattle.ic_header.specs.Packets.{IsSegment}
 use Rattle.ic_timed_sender.specs.Timed.{TimedState, begun_at}
 use Rattle.ic_timed_sender.specs.Standing.{StandsFirst}
 use Rattle.ic_conntab.specs.Ends.{motions_of}

@@ -13,9 +13,9 @@ use Rattle.ic_recvring.specs.Ring.{Packet as Kept}
 use Rattle.ic_law.specs.declared.history.Arrived.{Arrived}
 use Rattle.ic_law.specs.declared.history.Arrived.TheVariants.{Handled, Dropped}
 use Rattle.ic_law.specs.declared.history.DropCause.TheVariants as cause
-use Rattle.ic_law.specs.Packets.{key_of, is_rows, is_last, goes_forth, IsSegment}
+use Rattle.ic_header.specs.Packets.{key_of, is_rows, is_last, goes_forth, IsSegment}
 use Rattle.ic_law.specs.Points.{IsDirected}
-use Rattle.ic_law.specs.Arriving.{turned_header}
+use Rattle.ic_header.specs.Packets.{turned_header}
 use Rattle.ic_conntab.specs.Table.{is_past}
 use Rattle.ic_conntab.specs.Ends.{keys_of}
 use Rattle.ic_conntab.specs.declared.slots.Sides.{Sides}

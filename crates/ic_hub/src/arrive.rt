@@ -2,7 +2,7 @@
 ghost use Rattle.std.specs.Prelude.{◌≡◌, ◌↔◌, ◌+◌, ◌^◌, ◌<◌, ◌++◌, [], ◌∷◌, length, vec_len, vec_capacity, true, false, List, OnErr, IfOk, IsTrue};
 ghost use Rattle.ic_header.specs.Spelling.{AllowsBody};
 ghost use Rattle.ic_law.specs.declared.history.Entry.{Entry};
-ghost use Rattle.ic_law.specs.Packets.{goes_forth, key_of};
+ghost use Rattle.ic_header.specs.Packets.{goes_forth, key_of};
 ghost use Rattle.ic_law.specs.Points.{IsDirected};
 ghost use Rattle.ic_hub.specs.Entries.{arrive_entry};
 ghost use Rattle.ic_hub.specs.Standing.{Stands};
@@ -14,8 +14,8 @@ use crate::finding::Found;
 use crate::hub::Hub;
 use crate::query::Query;
 use crate::take::listed;
-use ic_base::{Bytes, ConnKey, Datagram, Datagrams, SegId};
-use ic_header::{Flags, Header, read, write};
+use ic_base::{ConnKey, Datagram, Datagrams, SegId};
+use ic_header::{Flags, Header, read, turned_packet};
 use ic_law::{Arrived, DropCause};
 use ic_timed_sender::TimedSender;
 use ic_conntab::Sides;
@@ -86,26 +86,8 @@ fn turned(
 ) -> Result<Datagrams, AllocError>
     ensures { IfOk result (TurnsBack at datagram.now head.now ended) }
 {
-    let answer = Header {
-        flags: turns(ended),
-        src_pid: 0,
-        src_port: 0,
-        dst_pid: 0,
-        dst_port: 0,
-        len: 64,
-        extra: 0,
-        ..*head
-    };
-    let mut bytes = [0; 64];
-    write(&answer, &mut bytes);
-    Datagrams::one(
-        alloc,
-        Datagram {
-            from: at,
-            to: datagram.from,
-            bytes: Bytes::from_slice(alloc, &bytes)?,
-        },
-    )
+    let answer = turned_packet(alloc, at, datagram.from, head, turns(ended))?;
+    Datagrams::one(alloc, answer)
 }
 
 fn dropped(alloc: Global, cause: DropCause) -> (Arrived, Datagrams)

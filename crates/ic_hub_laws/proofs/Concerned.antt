@@ -15,7 +15,7 @@ use Rattle.ic_law.specs.declared.history.HubAsk.TheVariants.{Put, Finish, Take, 
 use Rattle.ic_law.specs.declared.history.HubReply.{HubReply}
 use Rattle.ic_law.specs.declared.history.HubReply.TheVariants.{Begun, Gave, Took, Came, Ticked, Cleared, Left, Memory}
 use Rattle.ic_law.specs.declared.history.Entry.{Entry}
-use Rattle.ic_law.specs.Packets.{Packet, RowPacket, packet_of, key_of, goes_forth}
+use Rattle.ic_header.specs.Packets.{Packet, RowPacket, packet_of, key_of, goes_forth}
 use Rattle.ic_law.specs.History.{emits, rows_in, datagrams_of}
 use Rattle.ic_law.specs.Putting.{puts, chunk_put, finishes, is_finish, was_given}
 use Rattle.ic_law.specs.Taking.{takes, parcel_for, parcels_from, parcels_in, halts, is_halt}

@@ -12,7 +12,7 @@ use Rattle.ic_law.specs.declared.history.HubReply.{HubReply}
 use Rattle.ic_law.specs.declared.history.HubReply.TheVariants.{Ticked, Memory}
 use Rattle.ic_law.specs.declared.history.TickNo.{TickNo}
 use Rattle.ic_law.specs.declared.history.Entry.{Entry}
-use Rattle.ic_law.specs.Packets.{Packet, packet_of, key_of, goes_forth}
+use Rattle.ic_header.specs.Packets.{Packet, packet_of, key_of, goes_forth}
 use Rattle.ic_law.specs.Hearing.{IsStopped}
 use Rattle.ic_law.specs.Points.{Place, Emits, IsDirected, SameAgain, Sends, TakesNext, Tells, StopsAsked}
 use Rattle.ic_law.specs.Receiving.{Receives}

@@ -7,9 +7,10 @@ use Rattle.std.proofs.lemmas.Int.{by_lt_z}
 use Rattle.std.proofs.lemmas.Bool.Decides.{Decides-eqb, Decides-int_eq}
 use Rattle.ic_base.specs.declared.keys.ConnKey.{ConnKey}
 use Rattle.ic_base.specs.declared.datagram.Datagram.{Datagram}
-use Rattle.ic_law.specs.Packets.{key_of, goes_forth, header_for, IsSegment}
+use Rattle.ic_header.specs.Packets.{key_of, goes_forth, header_for, IsSegment}
 use Rattle.ic_law.specs.Points.{IsDirected}
-use Rattle.ic_law.specs.Arriving.{NoSegment, NotHere, Misdirected, OtherSession, turned_header, turned_back}
+use Rattle.ic_law.specs.Arriving.{NoSegment, NotHere, Misdirected, OtherSession, turned_back}
+use Rattle.ic_header.specs.Packets.{turned_header}
 use Rattle.ic_receiver.proofs.Shown.{answer_reads}
 use Rattle.ic_hub_laws.specs.Formed.{AnswersAreFormed, TurnedIsFormed}
 use Rattle.ic_hub_laws.proofs.Telling.{flag_of_true}

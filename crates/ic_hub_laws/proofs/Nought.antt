@@ -17,7 +17,7 @@ use Rattle.ic_law.specs.declared.history.HubAsk.TheVariants.{Begin, Put, Finish,
 use Rattle.ic_law.specs.declared.history.HubReply.{HubReply}
 use Rattle.ic_law.specs.declared.history.HubReply.TheVariants.{Memory}
 use Rattle.ic_law.specs.declared.history.Entry.{Entry}
-use Rattle.ic_law.specs.Packets.{Packet, packet_read, packet_of, key_of, goes_forth, IsSegment}
+use Rattle.ic_header.specs.Packets.{Packet, packet_read, packet_of, key_of, goes_forth, IsSegment}
 use Rattle.ic_law.specs.History.{rows_in, datagrams_of}
 use Rattle.ic_law.specs.Putting.{chunk_put, is_finish, was_given}
 use Rattle.ic_law.specs.Taking.{takes, parcel_for, parcels_from, parcels_in, halts, is_halt}
@@ -26,7 +26,8 @@ use Rattle.ic_law.specs.Hearing.{heard_by, was_handled, answer_in}
 use Rattle.ic_law.specs.Queries.{leaves, left_of}
 use Rattle.ic_law.specs.Points.{Place, Emits, IsDirected, IsHere, StopsAsked}
 use Rattle.ic_law.specs.Receiving.{handled}
-use Rattle.ic_law.specs.Arriving.{IsLiveQuery, IsOld, IsForeign, NoSegment, NotHere, Misdirected, OtherSession, NoSuchKey, turned_header, turned_back, AnswersBegin, IsOldOne, IsTwice, IsNew, AnswersClear, ClearNow, NotClear, AnswersLeave, LeavesNow, LeftUnclear, LeftNothing}
+use Rattle.ic_law.specs.Arriving.{IsLiveQuery, IsOld, IsForeign, NoSegment, NotHere, Misdirected, OtherSession, NoSuchKey, turned_back, AnswersBegin, IsOldOne, IsTwice, IsNew, AnswersClear, ClearNow, NotClear, AnswersLeave, LeavesNow, LeftUnclear, LeftNothing}
+use Rattle.ic_header.specs.Packets.{turned_header}
 use Rattle.ic_law.specs.Clock.{ticks_by}
 use Rattle.ic_law.specs.Emitting.{queries_in}
 use Rattle.ic_law.specs.Hub.{MayAnswer}

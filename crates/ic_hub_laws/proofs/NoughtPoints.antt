@@ -17,7 +17,7 @@ use Rattle.ic_law.specs.declared.history.LeaveNo.TheVariants as leave
 use Rattle.ic_law.specs.declared.history.TickNo.{TickNo}
 use Rattle.ic_law.specs.declared.history.TickNo.TheVariants.{Spent}
 use Rattle.ic_law.specs.declared.history.Entry.{Entry}
-use Rattle.ic_law.specs.Packets.{Packet, packet_of, goes_forth}
+use Rattle.ic_header.specs.Packets.{Packet, packet_of, goes_forth}
 use Rattle.ic_law.specs.Queries.{was_left}
 use Rattle.ic_law.specs.Points.{Place, Emits, IsLive, IsHere, IsClear}
 use Rattle.ic_law.specs.Arriving.{Arrives, Stranger, OfEnded, OfNotBegun, TooLate, IsUnknownKey, IsOfMotion, unknown, AnswersTakeAny, AnswersBegin, IsOldOne, IsTwice, IsNew, AnswersClear, ClearNow, NotClear, AnswersLeave, LeavesNow, LeftUnclear, LeftNothing}

@@ -12,7 +12,7 @@ use Rattle.ic_header.specs.Reading.{read_header}
 use Rattle.ic_law.specs.declared.history.HubAsk.{HubAsk}
 use Rattle.ic_law.specs.declared.history.HubReply.{HubReply}
 use Rattle.ic_law.specs.declared.history.Entry.{Entry}
-use Rattle.ic_law.specs.Packets.{Packet, RowPacket, packet_read, packet_of, key_of, is_rows, is_last, goes_forth}
+use Rattle.ic_header.specs.Packets.{Packet, RowPacket, packet_read, packet_of, key_of, is_rows, is_last, goes_forth}
 use Rattle.ic_law.specs.History.{emits, rows_read, rows_in}
 use Rattle.ic_law.specs.Hearing.{answer_read, answer_in}
 use Rattle.ic_law.specs.Emitting.{is_query, queries_read, queries_in}

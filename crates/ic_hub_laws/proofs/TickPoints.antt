@@ -9,7 +9,7 @@ use Rattle.ic_header.specs.declared.flags.Flags.{Flags}
 use Rattle.ic_law.specs.declared.history.HubAsk.TheVariants.{Begin, Put, Finish, Take, TakeFrom, Halt, Arrive, Tick, Clear, Leave}
 use Rattle.ic_law.specs.declared.history.HubReply.TheVariants.{Ticked}
 use Rattle.ic_law.specs.declared.history.Entry.{Entry}
-use Rattle.ic_law.specs.Packets.{Packet, RowPacket, goes_forth}
+use Rattle.ic_header.specs.Packets.{Packet, RowPacket, goes_forth}
 use Rattle.ic_law.specs.History.{emits, emitted_of, rows_in}
 use Rattle.ic_law.specs.Putting.{puts, finishes}
 use Rattle.ic_law.specs.Taking.{takes}

@@ -9,7 +9,7 @@ use Rattle.ic_header.specs.declared.flags.Flags.TheVariants.{Ack, Stop, Disorder
 use Rattle.ic_law.specs.declared.history.HubAsk.TheVariants.{TakeFrom, Halt, Arrive, Tick}
 use Rattle.ic_law.specs.declared.history.HubReply.TheVariants.{Ticked}
 use Rattle.ic_law.specs.declared.history.Entry.{Entry}
-use Rattle.ic_law.specs.Packets.{Packet, key_of, goes_forth}
+use Rattle.ic_header.specs.Packets.{Packet, key_of, goes_forth}
 use Rattle.ic_law.specs.History.{datagrams_of, rows_in}
 use Rattle.ic_law.specs.Taking.{takes, halts}
 use Rattle.ic_law.specs.Storing.{stores}

@@ -8,7 +8,7 @@ use Rattle.ic_base.specs.declared.settings.Settings.{Settings}
 use Rattle.ic_base.specs.declared.datagram.Datagram.{Datagram}
 use Rattle.ic_header.specs.declared.flags.Flags.{Flags}
 use Rattle.ic_law.specs.declared.history.Entry.{Entry}
-use Rattle.ic_law.specs.Packets.{Packet, RowPacket, is_rows, goes_forth}
+use Rattle.ic_header.specs.Packets.{Packet, RowPacket, is_rows, goes_forth}
 use Rattle.ic_law.specs.History.{emits, emitted_of, rows_in, rows_emitted_of, sent_upto}
 use Rattle.ic_law.specs.Putting.{puts, chunks_put_of, finishes, finished_of, IsFinished}
 use Rattle.ic_law.specs.Hearing.{stopped_of, IsStopped}

@@ -15,11 +15,12 @@ use Rattle.ic_law.specs.declared.history.DropCause.TheVariants as cause
 use Rattle.ic_law.specs.declared.history.HubNo.{HubNo}
 use Rattle.ic_law.specs.declared.history.TickNo.TheVariants.{Spent}
 use Rattle.ic_law.specs.declared.history.Entry.{Entry}
-use Rattle.ic_law.specs.Packets.{Packet, packet_of, key_of, goes_forth, IsSegment}
+use Rattle.ic_header.specs.Packets.{Packet, packet_of, key_of, goes_forth, IsSegment}
 use Rattle.ic_law.specs.History.{emits}
 use Rattle.ic_law.specs.Points.{Place, IsDirected, IsHere}
 use Rattle.ic_law.specs.Receiving.{handled, Receives}
-use Rattle.ic_law.specs.Arriving.{IsLiveQuery, IsOld, IsForeign, IsUnknownKey, IsOfMotion, unknown, turned_header, turned_back, AnswersTakeAny, AnswersBegin, AnswersClear, AnswersLeave}
+use Rattle.ic_law.specs.Arriving.{IsLiveQuery, IsOld, IsForeign, IsUnknownKey, IsOfMotion, unknown, turned_back, AnswersTakeAny, AnswersBegin, AnswersClear, AnswersLeave}
+use Rattle.ic_header.specs.Packets.{turned_header}
 use Rattle.ic_law.specs.Spending.{IsFirstSpent}
 use Rattle.ic_law.specs.Hub.{IsReplyTo}
 use Rattle.ic_sender.specs.Standing.{KeepsSending}

@@ -6,10 +6,11 @@ use Rattle.ic_header.specs.declared.header.Header.{Header}
 use Rattle.ic_header.specs.declared.flags.Flags.{Flags}
 use Rattle.ic_header.specs.Spelling.{Heads}
 use Rattle.ic_law.specs.declared.history.Entry.{Entry}
-use Rattle.ic_law.specs.Packets.{goes_forth}
+use Rattle.ic_header.specs.Packets.{goes_forth}
 use Rattle.ic_law.specs.Points.{Place, IsFormed}
-use Rattle.ic_law.specs.Arriving.{IsForeign, turned_header, turned_back}
-use Rattle.ic_receiver.specs.Receiving.{IsAnswer}
+use Rattle.ic_law.specs.Arriving.{IsForeign, turned_back}
+use Rattle.ic_header.specs.Packets.{turned_header}
+use Rattle.ic_header.specs.Packets.{IsAnswer}
 use Rattle.ic_hub_laws.specs.Entries.{IsOurs, IsPacketOf}
 
 -- a datagram of this connection, of the form of what a hub there may emit

@@ -11,7 +11,7 @@ use Rattle.ic_header.specs.declared.flags.Flags.{Flags}
 use Rattle.ic_header.specs.declared.flags.Flags.TheVariants.{Rows, LastRows, Query, Ack, Stop, Nak, Disorder, Duplicate}
 use Rattle.ic_header.specs.Spelling.{written, flags_word, AllowsBody, IsInRange, Heads}
 use Rattle.ic_header.proofs.Joining.{Heads-written, reads_again, reads_spelled}
-use Rattle.ic_law.specs.Packets.{packet_read, packet_of, is_rows, is_last, IsSegment, header_for, rows_flags, RowPacket, row_datagram, query_datagram, answer_datagram}
+use Rattle.ic_header.specs.Packets.{packet_read, packet_of, is_rows, is_last, IsSegment, header_for, rows_flags, RowPacket, row_datagram, query_datagram, answer_datagram}
 use Rattle.ic_law.specs.History.{rows_read, rows_in}
 
 -- the names of an end fit the words of headers

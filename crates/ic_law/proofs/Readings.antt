@@ -14,7 +14,7 @@ use Rattle.ic_law.specs.declared.history.HubAsk.TheVariants.{Begin, Put, Finish,
 use Rattle.ic_law.specs.declared.history.HubReply.{HubReply}
 use Rattle.ic_law.specs.declared.history.HubReply.TheVariants.{Begun, Gave, Took, Came, Ticked, Cleared, Left, Memory}
 use Rattle.ic_law.specs.declared.history.Entry.{Entry}
-use Rattle.ic_law.specs.Packets.{Packet, RowPacket, packet_of, key_of, is_rows, is_last, goes_forth}
+use Rattle.ic_header.specs.Packets.{Packet, RowPacket, packet_of, key_of, is_rows, is_last, goes_forth}
 use Rattle.ic_law.specs.History.{rows_read, rows_in, emits, arrives, emitted_of, arrived_of, rows_emitted_of, rows_arrived_of, number_of, greatest}
 use Rattle.ic_law.specs.Putting.{puts, chunks_put_of, finishes, finished_of}
 use Rattle.ic_law.specs.Taking.{takes, parcel_for, parcels_from, parcels_in, parcels_of, is_last_parcel, whole_of}

@@ -19,7 +19,7 @@ use Rattle.ic_law.specs.declared.history.HubNo.{HubNo}
 use Rattle.ic_law.specs.declared.history.LeaveNo.TheVariants as leave
 use Rattle.ic_law.specs.declared.history.Unclear.{Unclear}
 use Rattle.ic_law.specs.declared.history.Entry.{Entry}
-use Rattle.ic_law.specs.Packets.{Packet, RowPacket, key_of, goes_forth, IsSegment}
+use Rattle.ic_header.specs.Packets.{Packet, RowPacket, key_of, goes_forth, IsSegment}
 use Rattle.ic_law.specs.Queries.{left_of}
 use Rattle.ic_law.specs.Points.{Place, IsDirected, IsLive, IsHere, IsEnded, IsClear}
 use Rattle.ic_law.specs.Receiving.{handled, IsNext, IsTaken}
@@ -43,27 +43,7 @@ pub data IsForeign (place : Place) (h : List Entry) (d : Datagram) (head : Heade
   OtherSession : head.session ≢ place.session → IsForeign place h d head
   NoSuchKey : IsLiveQuery head.query h → ((end : ConnEnd) → IsHere end h → end.key ≢ key_of head) → IsForeign place h d head
 
--- The header of an answer where there is no connection. It has the key, the slice numbers and the number of what it answers.
-abbrev pub turned_header : Header → Flags → Header
-turned_header head flags =
-    record {
-      motion = head.motion;
-      src_pid = 0;
-      src_port = 0;
-      dst_pid = 0;
-      dst_port = 0;
-      session = head.session;
-      query = head.query;
-      recv_slice = head.recv_slice;
-      send_slice = head.send_slice;
-      src_content = head.src_content;
-      dst_content = head.dst_content;
-      flags = flags;
-      len = 64;
-      seq = head.seq;
-      extra = 0;
-    }
-
+-- the answer where there is no connection
 abbrev pub turned_back : Place → Datagram → Header → Flags → Datagram
 turned_back place d head flags = record { from = place.at; to = d.from; bytes = written (turned_header head flags) }
 

@@ -5,7 +5,7 @@ use Rattle.ic_base.specs.declared.datagram.Datagram.{Datagram}
 use Rattle.ic_law.specs.declared.history.Entry.{Entry}
 use Rattle.ic_base.specs.declared.keys.ConnEnd.{ConnEnd}
 use Rattle.ic_base.specs.declared.settings.Settings.{Settings}
-use Rattle.ic_law.specs.Packets.{RowPacket, row_datagram, query_datagram}
+use Rattle.ic_header.specs.Packets.{RowPacket, row_datagram, query_datagram}
 use Rattle.ic_law.specs.History.{emits, rows_in}
 use Rattle.ic_law.specs.Points.{Place, Every, IsHere}
 use Rattle.ic_law.specs.Clock.{ticks_by}

@@ -7,7 +7,7 @@ use Rattle.ic_header.specs.declared.flags.Flags.{Flags}
 use Rattle.ic_header.specs.declared.flags.Flags.TheVariants.{Rows, LastRows, Query, Ack, Stop, Nak, Disorder, Duplicate}
 use Rattle.ic_law.specs.declared.history.Entry.{Entry}
 use Rattle.ic_base.specs.declared.settings.Settings.{Settings}
-use Rattle.ic_law.specs.Packets.{Packet, RowPacket, packet_of, key_of}
+use Rattle.ic_header.specs.Packets.{Packet, RowPacket, packet_of, key_of}
 use Rattle.ic_law.specs.History.{sent_upto}
 use Rattle.ic_law.specs.Hearing.{hears, stopped_of}
 use Rattle.ic_law.specs.Filling.{sealed_of}

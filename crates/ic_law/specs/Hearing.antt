@@ -13,7 +13,7 @@ use Rattle.ic_law.specs.declared.history.HubReply.{HubReply}
 use Rattle.ic_law.specs.declared.history.HubReply.TheVariants.{Begun, Gave, Took, Came, Ticked, Cleared, Left, Memory}
 use Rattle.ic_law.specs.declared.history.Arrived.TheVariants.{Handled, Dropped}
 use Rattle.ic_law.specs.declared.history.Entry.{Entry}
-use Rattle.ic_law.specs.Packets.{Packet, packet_of, key_of, goes_forth}
+use Rattle.ic_header.specs.Packets.{Packet, packet_of, key_of, goes_forth}
 use Rattle.ic_law.specs.History.{greatest}
 
 abbrev pub was_handled : HubReply → Bool

@@ -17,7 +17,7 @@ use Rattle.ic_law.specs.declared.history.Entry.{Entry}
 use Rattle.ic_header.specs.declared.flags.Flags.{Flags}
 use Rattle.ic_law.specs.Asking.{IsAllowed}
 use Rattle.ic_law.specs.Spending.{IsFirstSpent}
-use Rattle.ic_law.specs.Packets.{Packet, packet_of, goes_forth}
+use Rattle.ic_header.specs.Packets.{Packet, packet_of, goes_forth}
 use Rattle.ic_law.specs.History.{emits}
 use Rattle.ic_law.specs.Hearing.{IsStopped}
 use Rattle.ic_law.specs.Queries.{was_left}

@@ -1,4 +1,3 @@
-pub mod Packets
 pub mod History
 pub mod Putting
 pub mod Taking

@@ -13,7 +13,7 @@ use Rattle.ic_chunk.specs.Assembly.{together}
 use Rattle.ic_law.specs.declared.history.HubAsk.TheVariants.{Begin}
 use Rattle.ic_law.specs.declared.history.HubReply.{HubReply}
 use Rattle.ic_law.specs.declared.history.Entry.{Entry}
-use Rattle.ic_law.specs.Packets.{Packet, RowPacket, packet_of, key_of, goes_forth, IsSegment}
+use Rattle.ic_header.specs.Packets.{Packet, RowPacket, packet_of, key_of, goes_forth, IsSegment}
 use Rattle.ic_law.specs.History.{emits, emitted_of, rows_in, rows_emitted_of, rows_arrived_of}
 use Rattle.ic_law.specs.Putting.{chunks_put_of, IsFinished}
 use Rattle.ic_law.specs.Taking.{parcels_of, takes, IsWhole, IsHalted, IsHaltAsked}

@@ -16,7 +16,7 @@ use Rattle.ic_law.specs.declared.history.Arrived.TheVariants.{Handled, Dropped}
 use Rattle.ic_law.specs.declared.history.DropCause.TheVariants.{Beyond}
 use Rattle.ic_law.specs.declared.history.HubNo.TheVariants.{Empty, Ended}
 use Rattle.ic_law.specs.declared.history.Entry.{Entry}
-use Rattle.ic_law.specs.Packets.{Packet, RowPacket, packet_of, key_of, answer_datagram}
+use Rattle.ic_header.specs.Packets.{Packet, RowPacket, packet_of, key_of, answer_datagram}
 use Rattle.ic_law.specs.History.{rows_in}
 use Rattle.ic_law.specs.Taking.{parcels_of, IsHalted}
 use Rattle.ic_law.specs.Storing.{stored_of, stored_numbers_of}
@@ -46,10 +46,6 @@ numbers_from n (suc count) = n ∷ numbers_from (n + 1) count
 -- the numbers above r, up to g, that aren't among these
 abbrev pub missing : List ℕ → ℕ → ℕ → List ℕ
 missing numbers r g = filter (λ n. not (has numbers n)) (numbers_from (r + 1) (g - r))
-
--- the body of an answer that lists numbers, four bytes each
-abbrev pub listing : List ℕ → List ℕ
-listing numbers = flat_map (to_be_bytes w32) numbers
 
 -- ---- arrivals
 

@@ -13,7 +13,7 @@ use Rattle.ic_law.specs.declared.history.Arrived.TheVariants.{Handled, Dropped}
 use Rattle.ic_law.specs.declared.history.DropCause.TheVariants as cause
 use Rattle.ic_law.specs.declared.history.HubNo.TheVariants as refused
 use Rattle.ic_law.specs.declared.history.Entry.{Entry}
-use Rattle.ic_law.specs.Packets.{Packet, packet_of, key_of, goes_forth}
+use Rattle.ic_header.specs.Packets.{Packet, packet_of, key_of, goes_forth}
 use Rattle.ic_law.specs.History.{sent_upto}
 use Rattle.ic_law.specs.Hearing.{IsStopped}
 use Rattle.ic_law.specs.Filling.{filling_of, fits, sealed_of, kept_of}

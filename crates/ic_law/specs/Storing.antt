@@ -9,7 +9,7 @@ use Rattle.ic_law.specs.declared.history.HubAsk.{HubAsk}
 use Rattle.ic_law.specs.declared.history.HubAsk.TheVariants.{Begin, Put, Finish, Take, TakeFrom, Halt, Arrive, Tick, Clear, Leave}
 use Rattle.ic_law.specs.declared.history.HubReply.{HubReply}
 use Rattle.ic_law.specs.declared.history.Entry.{Entry}
-use Rattle.ic_law.specs.Packets.{Packet, RowPacket, packet_of}
+use Rattle.ic_header.specs.Packets.{Packet, RowPacket, packet_of}
 use Rattle.ic_law.specs.History.{datagrams_of, rows_in, number_of}
 
 -- the answers to a packet that is stored

@@ -9,7 +9,7 @@ use Rattle.std.specs.Option.{option_map}
 use Rattle.ic_base.specs.declared.settings.Settings.{Settings}
 use Rattle.ic_window.specs.State.{WindowState, fresh, grown, lost, sampled}
 use Rattle.ic_window.specs.Waiting.{wait_of}
-use Rattle.ic_law.specs.Packets.{Packet}
+use Rattle.ic_header.specs.Packets.{Packet}
 use Rattle.ic_law.specs.Numbers.{words_in}
 use Rattle.ic_law.specs.Hearing.{run_heard}
 use Rattle.ic_law.specs.Clock.{clock_of}

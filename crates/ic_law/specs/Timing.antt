@@ -6,7 +6,7 @@ use Rattle.ic_law.specs.declared.history.Entry.{Entry}
 use Rattle.ic_base.specs.declared.settings.Settings.{Settings}
 use Rattle.ic_window.specs.State.{WindowState}
 use Rattle.ic_window.specs.Window.{room_of}
-use Rattle.ic_law.specs.Packets.{Packet, RowPacket}
+use Rattle.ic_header.specs.Packets.{Packet, RowPacket}
 use Rattle.ic_law.specs.History.{sent_upto}
 use Rattle.ic_law.specs.Hearing.{hears, run_heard, consumed_heard, stopped_of}
 use Rattle.ic_law.specs.Filling.{Sealed, sealed_of}

@@ -20,14 +20,16 @@ use Rattle.ic_law.specs.declared.history.HubReply.TheVariants.{Came}
 use Rattle.ic_law.specs.declared.history.Arrived.TheVariants.{Dropped}
 use Rattle.ic_law.specs.declared.history.DropCause.TheVariants.{Beyond}
 use Rattle.ic_law.specs.declared.history.Entry.{Entry}
-use Rattle.ic_law.specs.Packets.{Packet as Read, RowPacket, packet_of, key_of, is_rows, is_last, answer_datagram}
+use Rattle.ic_header.specs.Packets.{Packet as Read, RowPacket, packet_of, key_of, is_rows, is_last, answer_datagram}
 use Rattle.ic_law.specs.History.{rows_read, rows_in}
 use Rattle.ic_law.specs.Taking.{payloads_of, whole_of, IsHalted}
 use Rattle.ic_law.specs.Storing.{stored_of as stored_in, stored_numbers_of, datagram_tells_stored}
-use Rattle.ic_law.specs.Receiving.{IsRunEnd, consumed_of, handled, listing, AnswersRows, AnswersQuery, Receives, Stopped as RowsStopped, Again as RowsAgain, Far as RowsFar, Next as RowsNext, Gap as RowsGap, QueryStopped as LawStopped, QueryTold as LawTold}
+use Rattle.ic_law.specs.Receiving.{IsRunEnd, consumed_of, handled, AnswersRows, AnswersQuery, Receives, Stopped as RowsStopped, Again as RowsAgain, Far as RowsFar, Next as RowsNext, Gap as RowsGap, QueryStopped as LawStopped, QueryTold as LawTold}
+use Rattle.ic_header.specs.Packets.{listing}
 use Rattle.ic_law.proofs.Lists.{Contains-one}
 use Rattle.ic_law.proofs.Readings.{every_push, rows_in-reads}
-use Rattle.ic_receiver.specs.Receiving.{Receiving, IsAnswer, storing, TellsStored, Next, Gap, HearsRows, Again, Far, Kept, Hears, Stopped, Running, HearsQuery, QueryStopped, QueryTold}
+use Rattle.ic_receiver.specs.Receiving.{Receiving, storing, TellsStored, Next, Gap, HearsRows, Again, Far, Kept, Hears, Stopped, Running, HearsQuery, QueryStopped, QueryTold}
+use Rattle.ic_header.specs.Packets.{IsAnswer}
 use Rattle.ic_receiver.specs.Entries.{row_of, came_of, IsHearing, IsQuerying}
 use Rattle.ic_receiver.specs.Standing.{Mirrors, Stands}
 use Rattle.ic_receiver.proofs.Numbers.{Same, same_run_end, same_greatest, same_missing, missing_first, run_behind}

@@ -11,9 +11,10 @@ use Rattle.ic_header.specs.declared.flags.Flags.TheVariants.{Stop}
 use Rattle.ic_header.specs.Spelling.{AllowsBody, Heads, written}
 use Rattle.ic_header.proofs.Words.{length-words}
 use Rattle.ic_recvring.specs.Ring.{Ring, Packet}
-use Rattle.ic_law.specs.Packets.{header_for}
-use Rattle.ic_law.specs.Receiving.{listing}
-use Rattle.ic_receiver.specs.Receiving.{Receiving, IsAnswer, HearsRows, Hears, Stopped, Running}
+use Rattle.ic_header.specs.Packets.{header_for}
+use Rattle.ic_header.specs.Packets.{listing}
+use Rattle.ic_receiver.specs.Receiving.{Receiving, HearsRows, Hears, Stopped, Running}
+use Rattle.ic_header.specs.Packets.{IsAnswer}
 
 pub if_ok : {X E : Type 0} (r : Result X E) (P Q : X → Type 0) → ((x : X) → P x → Q x) → IfOk r P → IfOk r Q
 if_ok (Ok x) P Q go h = go x h
@@ -21,21 +22,6 @@ if_ok (Err e) P Q go h = h
 
 pub on_err : {X E : Type 0} (r : Result X E) (e : E) {P : Type 0} → r ≡ Err e → OnErr r P → P
 on_err r e {P = P} is h = subst (λ x. OnErr x P) is h
-
--- a header that was written, and a list behind it
-pub answer_made : (end : ConnEnd) (flags : Flags) (seq extra : ℕ) (numbers : List ℕ) (header : Header) (out bytes : List ℕ) → header ≡ header_for end flags (4 * length numbers) seq extra
-    → out ≡ written header → ((body : List ℕ) → header.len ≡ 64 + length body → AllowsBody header.flags (length body) → Heads header body (out ++ body)) → AllowsBody flags (4 * length numbers)
-    → bytes ≡ out ++ listing numbers → IsAnswer end flags seq extra (listing numbers) (record { from = end.key.to; to = end.key.from; bytes = bytes })
-answer_made end flags seq extra numbers header out bytes is spelled heads allowed are =
-    let size : 4 * length numbers ≡ length (listing numbers) = sym (length-words numbers) in
-    let same : header ≡ header_for end flags (length (listing numbers)) seq extra = is ∙ ap (λ n. header_for end flags n seq extra) size in
-    let len : header.len ≡ 64 + length (listing numbers) = ap (λ (h : Header). h.len) same in
-    let may : AllowsBody header.flags (length (listing numbers)) = subst (λ f. AllowsBody f (length (listing numbers))) (sym (ap (λ (h : Header). h.flags) same)) (subst (AllowsBody flags) size allowed) in
-    record {
-      is = ap (λ l. record { from = end.key.to; to = end.key.from; bytes = l }) (are ∙ ap (λ l. l ++ listing numbers) spelled ∙ ap (λ h. written h ++ listing numbers) same);
-      spelled = subst (λ l. Heads (header_for end flags (length (listing numbers)) seq extra) (listing numbers) l) (sym are)
-          (subst (λ h. Heads h (listing numbers) (out ++ listing numbers)) same (heads (listing numbers) len may));
-    }
 
 -- a list of numbers that a Disorder may have
 pub listing_allowed : (n : ℕ) → 0 < n → (0 < 4 * n) × ((4 * n) % 4 ≡ 0)

@@ -13,7 +13,7 @@ use Rattle.ic_law.specs.declared.history.HubAsk.{HubAsk}
 use Rattle.ic_law.specs.declared.history.HubAsk.TheVariants.{Begin, Put, Finish, Take, TakeFrom, Halt, Arrive, Tick, Clear, Leave}
 use Rattle.ic_law.specs.declared.history.HubReply.{HubReply}
 use Rattle.ic_law.specs.declared.history.Entry.{Entry}
-use Rattle.ic_law.specs.Packets.{RowPacket}
+use Rattle.ic_header.specs.Packets.{RowPacket}
 use Rattle.ic_law.specs.History.{rows_in, number_of, arrives, arrived_of, rows_arrived_of, datagrams_of}
 use Rattle.ic_law.specs.Taking.{takes, parcels_of, payload_in, payloads_of, is_last_parcel, whole_of, halts, IsHaltAsked, IsHalted}
 use Rattle.ic_law.specs.Storing.{stores, stored_by, stored_of as stored_in, stored_numbers_of, datagram_tells_stored}

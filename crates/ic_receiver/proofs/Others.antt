@@ -21,7 +21,8 @@ use Rattle.ic_law.specs.Storing.{stored_by}
 use Rattle.ic_law.specs.Receiving.{IsTaking, AnswersHalt, HaltedNow, HaltedAgain, Receives}
 use Rattle.ic_law.proofs.Lists.{Contains-none, list_any-push}
 use Rattle.ic_law.proofs.Readings.{every_none, every_push, fold_every, parcels_of-push, stored_of-push}
-use Rattle.ic_receiver.specs.Receiving.{Receiving, begun, IsAnswer, IsOver, Halts, HaltsAgain, HaltsNow}
+use Rattle.ic_receiver.specs.Receiving.{Receiving, begun, IsOver, Halts, HaltsAgain, HaltsNow}
+use Rattle.ic_header.specs.Packets.{IsAnswer}
 use Rattle.ic_receiver.specs.Entries.{list_of, IsHalting, IsSilent}
 use Rattle.ic_receiver.specs.Standing.{Mirrors, Stands, IsUntouched}
 use Rattle.ic_receiver.proofs.Shown.{shown_none, Lawful, lawful_none, lawful_stop}

@@ -9,14 +9,14 @@ use Rattle.ic_header.specs.declared.flags.Flags.{Flags}
 use Rattle.ic_header.specs.declared.flags.Flags.TheVariants.{Ack, Stop, Disorder, Duplicate}
 use Rattle.ic_header.proofs.Joining.{reads_spelled}
 use Rattle.ic_law.specs.declared.history.Entry.{Entry}
-use Rattle.ic_law.specs.Packets.{Packet, packet_read, packet_of, header_for}
+use Rattle.ic_header.specs.Packets.{Packet, packet_read, packet_of, header_for}
 use Rattle.ic_law.specs.History.{emits}
 use Rattle.ic_law.specs.Taking.{IsHaltAsked}
 use Rattle.ic_law.specs.Storing.{tells_stored, packet_tells_stored, datagram_tells_stored}
 use Rattle.ic_law.specs.Points.{Emits, RunHad, Tells, StopsAsked}
 use Rattle.ic_law.specs.Receiving.{consumed_of}
 use Rattle.ic_law.proofs.Lists.{Contains-none, Contains-one}
-use Rattle.ic_receiver.specs.Receiving.{IsAnswer}
+use Rattle.ic_header.specs.Packets.{IsAnswer}
 
 -- ---- reading
 

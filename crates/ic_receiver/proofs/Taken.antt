@@ -24,7 +24,7 @@ use Rattle.ic_law.specs.declared.history.HubReply.TheVariants.{Took}
 use Rattle.ic_law.specs.declared.history.HubNo.{HubNo}
 use Rattle.ic_law.specs.declared.history.HubNo.TheVariants.{Empty, Ended}
 use Rattle.ic_law.specs.declared.history.Entry.{Entry}
-use Rattle.ic_law.specs.Packets.{RowPacket, answer_datagram}
+use Rattle.ic_header.specs.Packets.{RowPacket, answer_datagram}
 use Rattle.ic_law.specs.History.{rows_arrived_of, number_of}
 use Rattle.ic_law.specs.Taking.{takes, parcel_for, parcels_of, payloads_of, whole_of, is_halt}
 use Rattle.ic_law.specs.Storing.{stored_by, stored_of as stored_in, stored_numbers_of}

@@ -12,7 +12,7 @@ use Rattle.ic_law.specs.declared.history.Arrived.TheVariants.{Dropped}
 use Rattle.ic_law.specs.declared.history.DropCause.TheVariants.{Beyond}
 use Rattle.ic_law.specs.declared.history.HubNo.{HubNo}
 use Rattle.ic_law.specs.declared.history.Entry.{Entry}
-use Rattle.ic_law.specs.Packets.{Packet, RowPacket, packet_of, key_of}
+use Rattle.ic_header.specs.Packets.{Packet, RowPacket, packet_of, key_of}
 use Rattle.ic_law.specs.History.{rows_in}
 use Rattle.ic_law.specs.Taking.{takes, halts}
 use Rattle.ic_law.specs.Storing.{stores}

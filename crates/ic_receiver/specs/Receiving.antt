@@ -10,8 +10,8 @@ use Rattle.ic_header.specs.Spelling.{Heads}
 use Rattle.ic_recvring.specs.Numbers.{IsRunEnd, IsGreatest, missing}
 use Rattle.ic_recvring.specs.Ring.{Ring, Packet, stored_of, empty, placed, front_of, after_front, IsRepeated, IsNew, IsBeyond, HasRoom}
 use Rattle.ic_chunk.specs.Counts.{HasCounted}
-use Rattle.ic_law.specs.Packets.{header_for, answer_datagram}
-use Rattle.ic_law.specs.Receiving.{listing}
+use Rattle.ic_header.specs.Packets.{header_for, answer_datagram}
+use Rattle.ic_header.specs.Packets.{listing}
 
 -- An end with the ring of what came, which a halt drops; whole once the packet with the end of stream was taken; and how
 -- many rows ended in the payloads that were taken.
@@ -29,11 +29,6 @@ IsShort None = Unit {0}
 -- as it begins
 abbrev pub begun : ConnEnd → Settings → Receiving
 begun end settings = record { end = end; ring = Some (empty settings.receive_depth settings.packet); whole = false; rows = 0 }
-
--- an answer of this end, and its bytes are its header and its body
-pub record IsAnswer (end : ConnEnd) (flags : Flags) (seq extra : ℕ) (body : List ℕ) (d : Datagram) : Type 0 where
-  pub is : d ≡ answer_datagram end flags seq extra body
-  pub spelled : Heads (header_for end flags (length body) seq extra) body d.bytes
 
 -- ---- a packet of rows comes
 

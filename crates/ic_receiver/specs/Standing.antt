@@ -8,7 +8,7 @@ use Rattle.ic_row.specs.declared.value.Value.{Value}
 use Rattle.ic_chunk.specs.Counts.{HasCounted, greatest_count}
 use Rattle.ic_recvring.specs.Ring.{Ring, Packet, stored_of}
 use Rattle.ic_law.specs.declared.history.Entry.{Entry}
-use Rattle.ic_law.specs.Packets.{RowPacket}
+use Rattle.ic_header.specs.Packets.{RowPacket}
 use Rattle.ic_law.specs.Taking.{payloads_of, whole_of, IsHalted}
 use Rattle.ic_law.specs.Storing.{stored_of as stored_in, stored_numbers_of}
 use Rattle.ic_law.specs.Points.{Every, IsEnded}

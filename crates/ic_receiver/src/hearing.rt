@@ -5,10 +5,9 @@ ghost use Rattle.ic_recvring.specs.Ring.{Ring, IsRing, numbers, stored_of, front
 ghost use Rattle.ic_recvring.specs.Ring.{Packet as Kept};
 ghost use Rattle.ic_receiver.specs.Receiving.{HearsRows, TellsStored, HandsFront};
 
-use crate::answer::{answer, answer_listing};
 use crate::take_no::TakeNo;
 use ic_base::{Bytes, ConnEnd, Datagram, Parcel};
-use ic_header::Flags;
+use ic_header::{Flags, answer_packet, listing_packet};
 use ic_recvring::{RecvRing, Store};
 use std::alloc::{AllocError, Global};
 
@@ -28,10 +27,10 @@ fn tell_stored(
     ensures { IfOk result (λ d. TellsStored end.now ring.now run seq d) }
 {
     if seq - run == 1 {
-        return answer(alloc, end, Flags::Ack, ring.run_end(), ring.consumed());
+        return answer_packet(alloc, end, Flags::Ack, ring.run_end(), ring.consumed());
     }
     let missing = ring.missing(alloc)?;
-    answer_listing(
+    listing_packet(
         alloc,
         end,
         Flags::Disorder,
@@ -57,7 +56,7 @@ pub(crate) fn hear(
 {
     let run = ring.run_end();
     match ring.store(seq, payload, last) {
-        Store::Duplicate => Ok(Some(answer(alloc, end, Flags::Duplicate, seq, run)?)),
+        Store::Duplicate => Ok(Some(answer_packet(alloc, end, Flags::Duplicate, seq, run)?)),
         Store::Beyond => Ok(None),
         Store::Stored => match tell_stored(alloc, end, ring, run, seq) {
             Ok(told) => Ok(Some(told)),
@@ -89,7 +88,7 @@ pub(crate) fn hand_over(
         payload: Bytes::from_slice(alloc, front.payload)?,
         last: front.last,
     };
-    let told = answer(alloc, end, Flags::Ack, ring.run_end(), front.seq)?;
+    let told = answer_packet(alloc, end, Flags::Ack, ring.run_end(), front.seq)?;
     ring.consume();
     Ok((parcel, told))
 }

@@ -13,7 +13,6 @@
 //! the law of histories. Above: the hub.
 #![tactic(auto)]
 
-mod answer;
 mod hearing;
 mod laws;
 mod receiver;

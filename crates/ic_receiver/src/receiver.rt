@@ -10,11 +10,10 @@ ghost use Rattle.ic_receiver.specs.Receiving.{Hears, HearsQuery, IsOver, IsEmpty
 ghost use Rattle.ic_receiver.specs.Entries.{IsHearing, IsQuerying, IsRefusing, IsHalting};
 ghost use Rattle.ic_receiver.specs.Standing.{Stands, StandsOn, IsUntouched, TakesNoMore, WaitsForNext, NotReady, TakesNow, TellsRows};
 
-use crate::answer::answer;
 use crate::hearing::{hand_over, hear};
 use crate::take_no::TakeNo;
 use ic_base::{ConnEnd, Datagram, Parcel, SegId, Settings};
-use ic_header::Flags;
+use ic_header::{Flags, answer_packet};
 use ic_recvring::RecvRing;
 use ic_chunk::count_more;
 use std::alloc::{AllocError, Global};
@@ -129,7 +128,7 @@ impl Receiver {
         ensures memory { OnErr result (self.new ≡ self.old) }
     {
         match &mut self.ring {
-            None => Ok(Some(answer(alloc, &self.end, Flags::Stop, seq, 0)?)),
+            None => Ok(Some(answer_packet(alloc, &self.end, Flags::Stop, seq, 0)?)),
             Some(ring) => hear(alloc, &self.end, ring, seq, payload, last),
         }
     }
@@ -156,8 +155,8 @@ impl Receiver {
         ensures { IfOk result (λ a. HearsQuery self.now seq a) }
     {
         match &self.ring {
-            None => Ok(Some(answer(alloc, &self.end, Flags::Stop, seq, 0)?)),
-            Some(ring) => Ok(Some(answer(
+            None => Ok(Some(answer_packet(alloc, &self.end, Flags::Stop, seq, 0)?)),
+            Some(ring) => Ok(Some(answer_packet(
                 alloc,
                 &self.end,
                 Flags::Ack,
@@ -221,7 +220,7 @@ impl Receiver {
         if self.whole || self.ring.is_none() {
             return Ok(None);
         }
-        let told = answer(alloc, &self.end, Flags::Stop, 0, 0)?;
+        let told = answer_packet(alloc, &self.end, Flags::Stop, 0, 0)?;
         self.ring = None;
         Ok(Some(told))
     }

@@ -20,7 +20,7 @@ use Rattle.ic_law.specs.declared.history.HubReply.TheVariants.{Came, Memory}
 use Rattle.ic_law.specs.declared.history.Arrived.TheVariants.{Handled, Dropped}
 use Rattle.ic_law.specs.declared.history.DropCause.TheVariants as cause
 use Rattle.ic_law.specs.declared.history.Entry.{Entry}
-use Rattle.ic_law.specs.Packets.{Packet, packet_of, key_of, goes_forth, row_datagram}
+use Rattle.ic_header.specs.Packets.{Packet, packet_of, key_of, goes_forth, row_datagram}
 use Rattle.ic_law.specs.History.{datagrams_of, greatest, rows_in, rows_emitted_of, sent_upto}
 use Rattle.ic_law.specs.Hearing.{was_handled, answer_in, hears, is_stop, stop_flags, stopped_of, IsStopped, run_heard, run_told, run_by, consumed_heard, consumed_told, consumed_by}
 use Rattle.ic_law.specs.Filling.{Sealed, filling, sealed_of}

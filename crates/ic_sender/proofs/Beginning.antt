@@ -13,7 +13,7 @@ use Rattle.ic_chunk.specs.Assembly.{together}
 use Rattle.ic_expire.specs.declared.item.Item.{Item}
 use Rattle.ic_window.specs.State.{fresh, fresh_window}
 use Rattle.ic_law.specs.declared.history.Entry.{Entry}
-use Rattle.ic_law.specs.Packets.{RowPacket}
+use Rattle.ic_header.specs.Packets.{RowPacket}
 use Rattle.ic_law.specs.History.{emits, rows_in, rows_emitted_of}
 use Rattle.ic_law.specs.Hearing.{hears, is_stop}
 use Rattle.ic_law.specs.Filling.{Sealed, filling, sealed_of}

@@ -5,7 +5,7 @@ use Rattle.ic_base.specs.declared.keys.ConnEnd.{ConnEnd}
 use Rattle.ic_base.specs.declared.datagram.Datagram.{Datagram}
 use Rattle.ic_base.specs.Keys.{key_eq}
 use Rattle.ic_base.proofs.SameKeys.{key_eq-same}
-use Rattle.ic_law.specs.Packets.{RowPacket, row_datagram, query_datagram, rows_flags}
+use Rattle.ic_header.specs.Packets.{RowPacket, row_datagram, query_datagram, rows_flags}
 use Rattle.ic_law.specs.History.{rows_in, rows_read}
 use Rattle.ic_law.specs.Emitting.{queries_in, queries_read, is_query}
 use Rattle.ic_law.proofs.Lists.{Contains-none, Contains-head, Contains-tail, head_or_tail}

@@ -17,7 +17,7 @@ use Rattle.ic_window.specs.Waiting.{wait_of}
 use Rattle.ic_window.specs.declared.round_trip.RoundTrip.{RoundTrip}
 use Rattle.ic_window.proofs.Growth.{waits_rise}
 use Rattle.ic_law.specs.declared.history.Entry.{Entry}
-use Rattle.ic_law.specs.Packets.{RowPacket, row_datagram}
+use Rattle.ic_header.specs.Packets.{RowPacket, row_datagram}
 use Rattle.ic_law.specs.History.{emits, emitted_of, rows_in, rows_emitted_of, number_of, sent_upto}
 use Rattle.ic_law.specs.Hearing.{stopped_of, run_heard, consumed_heard}
 use Rattle.ic_law.specs.Filling.{Sealed, sealed_of}

@@ -13,7 +13,7 @@ use Rattle.ic_law.proofs.Lists.{map-append, Contains-head, Contains-tail}
 use Rattle.ic_expire.specs.declared.item.Item.{Item}
 use Rattle.ic_expire.specs.Queue.{Queue, IsHeld}
 use Rattle.ic_window.specs.State.{WindowState}
-use Rattle.ic_law.specs.Packets.{RowPacket}
+use Rattle.ic_header.specs.Packets.{RowPacket}
 use Rattle.ic_law.specs.Timers as law
 use Rattle.ic_law.specs.Timing as timing
 use Rattle.ic_sender.specs.declared.flight.Flight.{Flight}

@@ -5,7 +5,7 @@ use Rattle.std.proofs.lemmas.Bool.{cases_Bool}
 use Rattle.std.proofs.lemmas.List.Elements.{Contains-append_cases}
 use Rattle.ic_expire.specs.declared.item.Item.{Item}
 use Rattle.ic_law.specs.declared.history.Entry.{Entry}
-use Rattle.ic_law.specs.Packets.{row_datagram}
+use Rattle.ic_header.specs.Packets.{row_datagram}
 use Rattle.ic_law.specs.History.{emits, rows_in}
 use Rattle.ic_law.specs.Hearing.{hears, is_stop, stopped_of}
 use Rattle.ic_law.specs.Filling.{sealed_of}

@@ -18,7 +18,7 @@ use Rattle.ic_law.specs.declared.history.HubAsk.TheVariants.{Arrive}
 use Rattle.ic_law.specs.declared.history.HubReply.TheVariants.{Came}
 use Rattle.ic_law.specs.declared.history.Arrived.TheVariants.{Handled}
 use Rattle.ic_law.specs.declared.history.Entry.{Entry}
-use Rattle.ic_law.specs.Packets.{Packet, packet_of, key_of, goes_forth}
+use Rattle.ic_header.specs.Packets.{Packet, packet_of, key_of, goes_forth}
 use Rattle.ic_law.specs.History.{number_of}
 use Rattle.ic_law.specs.Hearing.{hears, answer_read, is_stop, run_heard, run_told, consumed_told}
 use Rattle.ic_law.specs.Filling.{Sealed}

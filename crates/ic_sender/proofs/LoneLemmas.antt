@@ -10,7 +10,7 @@ use Rattle.ic_expire.specs.declared.dues.Due.{Due}
 use Rattle.ic_expire.specs.Items.{is_due, is_upto}
 use Rattle.ic_expire.specs.Queue.{Queue, IsHeld, IsQueue, with_item, without, dues_of}
 use Rattle.ic_expire.proofs.Holding.{due_takes}
-use Rattle.ic_law.specs.Packets.{RowPacket}
+use Rattle.ic_header.specs.Packets.{RowPacket}
 use Rattle.ic_law.specs.Clock.{last_tick}
 use Rattle.ic_law.specs.Timers.{wait_in}
 use Rattle.ic_law.specs.Timing.{numbers_behind}

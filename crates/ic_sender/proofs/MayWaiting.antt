@@ -8,7 +8,7 @@ use Rattle.ic_expire.specs.declared.item.Item.{Item}
 use Rattle.ic_expire.specs.Items.{item_cmp}
 use Rattle.ic_expire.specs.Queue.{Queue, IsHeld, with_item, without}
 use Rattle.ic_expire.proofs.Holding.{put_holds, rest_holds}
-use Rattle.ic_law.specs.Packets.{RowPacket}
+use Rattle.ic_header.specs.Packets.{RowPacket}
 use Rattle.ic_law.specs.Numbers.{IsIncreasingFrom}
 use Rattle.ic_law.specs.Timing.{numbers_behind}
 use Rattle.ic_law.proofs.Lists.{Contains-head, Contains-tail}

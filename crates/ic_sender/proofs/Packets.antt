@@ -7,7 +7,7 @@ use Rattle.ic_base.specs.declared.keys.ConnEnd.{ConnEnd}
 use Rattle.ic_sendring.specs.Ring.{Ring, IsRing, Kept, Packet, bare, room_of}
 use Rattle.ic_sendring.specs.Views.{lent}
 use Rattle.ic_sendring.specs.declared.sealed.Sealed.{Sealed}
-use Rattle.ic_law.specs.Packets.{RowPacket}
+use Rattle.ic_header.specs.Packets.{RowPacket}
 use Rattle.ic_law.specs.Timing.{numbers_behind}
 use Rattle.ic_law.proofs.Lists.{map-append, flat_map-push}
 use Rattle.ic_sender.specs.Sending.{row_of, kept_at, rows_kept, flight_of}

@@ -10,7 +10,7 @@ use Rattle.ic_base.specs.declared.settings.Flow.TheVariants.{Loss, Capacity}
 use Rattle.ic_expire.specs.declared.item.Item.{Item}
 use Rattle.ic_window.specs.State.{WindowState, by_flow, grown, lost, sampled}
 use Rattle.ic_window.specs.Window.{times, wider, halved}
-use Rattle.ic_law.specs.Packets.{row_datagram}
+use Rattle.ic_header.specs.Packets.{row_datagram}
 use Rattle.ic_law.specs.Filling.{Sealed}
 use Rattle.ic_law.specs.Timers.{Timer, timer_of, lost_where}
 use Rattle.ic_law.specs.Timing.{row_at, rows_at}

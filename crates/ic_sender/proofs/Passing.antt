@@ -13,7 +13,7 @@ use Rattle.ic_expire.specs.declared.item.Item.{Item}
 use Rattle.ic_law.specs.declared.history.Entry.{Entry}
 use Rattle.ic_law.specs.declared.history.HubAsk.{HubAsk}
 use Rattle.ic_law.specs.declared.history.HubReply.{HubReply}
-use Rattle.ic_law.specs.Packets.{RowPacket, row_datagram}
+use Rattle.ic_header.specs.Packets.{RowPacket, row_datagram}
 use Rattle.ic_law.specs.History.{emits, emitted_of, rows_in, rows_emitted_of, number_of, sent_upto, greatest}
 use Rattle.ic_law.specs.Putting.{puts, chunks_put_of, finishes, finished_of}
 use Rattle.ic_law.specs.Hearing.{hears, stopped_of, run_heard, consumed_heard, run_told, consumed_told, is_stop}

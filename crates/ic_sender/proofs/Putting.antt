@@ -20,7 +20,7 @@ use Rattle.ic_law.specs.declared.history.HubReply.{HubReply}
 use Rattle.ic_law.specs.declared.history.HubReply.TheVariants.{Gave, Memory}
 use Rattle.ic_law.specs.declared.history.HubNo.TheVariants as no
 use Rattle.ic_law.specs.declared.history.Entry.{Entry}
-use Rattle.ic_law.specs.Packets.{RowPacket, row_datagram}
+use Rattle.ic_header.specs.Packets.{RowPacket, row_datagram}
 use Rattle.ic_law.specs.History.{emits, rows_in, rows_emitted_of, number_of}
 use Rattle.ic_law.specs.Putting.{puts, chunks_put_of, finished_of, was_given}
 use Rattle.ic_law.specs.Hearing.{hears, IsStopped, run_heard}

@@ -3,7 +3,7 @@ use Rattle.std.proofs.Common.{◌≡◌, ℕ, zero, suc, ◌+◌, ◌-◌, ◌<�
 use Rattle.std.specs.List.{Contains}
 use Rattle.std.proofs.lemmas.Bool.{cases_lt}
 use Rattle.std.proofs.lemmas.List.Elements.{Contains-append_cases, Contains-append_left, Contains-append_right}
-use Rattle.ic_law.specs.Packets.{RowPacket}
+use Rattle.ic_header.specs.Packets.{RowPacket}
 use Rattle.ic_law.specs.History.{number_of, greatest}
 use Rattle.ic_law.specs.Filling.{Sealed, plain, filling, sealed}
 use Rattle.ic_law.specs.Points.{Fills, SentUpto}

@@ -19,7 +19,7 @@ use Rattle.ic_window.specs.Waiting.{wait_of}
 use Rattle.ic_law.specs.declared.history.HubAsk.TheVariants.{Put, Finish, Arrive, Tick}
 use Rattle.ic_law.specs.declared.history.HubReply.TheVariants.{Ticked}
 use Rattle.ic_law.specs.declared.history.Entry.{Entry}
-use Rattle.ic_law.specs.Packets.{RowPacket, row_datagram, query_datagram}
+use Rattle.ic_header.specs.Packets.{RowPacket, row_datagram, query_datagram}
 use Rattle.ic_law.specs.History.{rows_in, rows_emitted_of, sent_upto}
 use Rattle.ic_law.specs.Hearing.{hears, stopped_of}
 use Rattle.ic_law.specs.Filling.{Sealed, filling, sealed_of}

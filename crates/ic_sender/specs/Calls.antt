@@ -5,7 +5,7 @@ use Rattle.ic_base.specs.declared.datagram.Datagram.{Datagram}
 use Rattle.ic_expire.specs.declared.item.Item.{Item}
 use Rattle.ic_expire.specs.Items.{is_upto}
 use Rattle.ic_expire.specs.Queue.{Queue, IsHeld, without}
-use Rattle.ic_law.specs.Packets.{query_datagram}
+use Rattle.ic_header.specs.Packets.{query_datagram}
 use Rattle.ic_law.specs.Numbers.{words_in, IsIncreasingFrom, last_or}
 use Rattle.ic_law.specs.Clock.{last_tick}
 use Rattle.ic_law.specs.Timers.{Asked}

@@ -16,7 +16,7 @@ use Rattle.ic_law.specs.declared.history.Arrived.TheVariants.{Handled, Dropped}
 use Rattle.ic_law.specs.declared.history.DropCause.TheVariants as cause
 use Rattle.ic_law.specs.declared.history.HubNo.TheVariants as no
 use Rattle.ic_law.specs.declared.history.Entry.{Entry}
-use Rattle.ic_law.specs.Packets.{Packet, packet_of, key_of, goes_forth}
+use Rattle.ic_header.specs.Packets.{Packet, packet_of, key_of, goes_forth}
 use Rattle.ic_law.specs.History.{emits, rows_in}
 use Rattle.ic_law.specs.Putting.{puts, finishes}
 use Rattle.ic_law.specs.Hearing.{hears}

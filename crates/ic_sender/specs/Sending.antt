@@ -10,7 +10,7 @@ use Rattle.ic_expire.specs.declared.item.Item.{Item}
 use Rattle.ic_expire.specs.Queue.{with_item}
 use Rattle.ic_window.specs.State.{WindowState, fresh, grown, lost, sampled}
 use Rattle.ic_window.specs.Window.{room_of}
-use Rattle.ic_law.specs.Packets.{RowPacket, row_datagram}
+use Rattle.ic_header.specs.Packets.{RowPacket, row_datagram}
 use Rattle.ic_sender.specs.declared.flight.Flight.{Flight}
 use Rattle.ic_law.specs.Timers.{Asked, wait_in, asked_later, asked_again, lost_where}
 use Rattle.ic_law.specs.Timing.{standing, numbers_behind}

@@ -11,7 +11,7 @@ use Rattle.ic_chunk.specs.Assembly.{together}
 use Rattle.ic_expire.specs.declared.item.Item.{Item}
 use Rattle.ic_expire.specs.Queue.{held_of}
 use Rattle.ic_law.specs.declared.history.Entry.{Entry}
-use Rattle.ic_law.specs.Packets.{RowPacket, IsSegment, row_datagram}
+use Rattle.ic_header.specs.Packets.{RowPacket, IsSegment, row_datagram}
 use Rattle.ic_law.specs.History.{emitted_of, rows_in, rows_emitted_of, number_of}
 use Rattle.ic_law.specs.Putting.{finished_of}
 use Rattle.ic_law.specs.Hearing.{stopped_of, run_heard, consumed_heard, IsStopped}

@@ -12,7 +12,7 @@ use Rattle.ic_sender.specs.declared.planning.Plan.{Plan}
 use Rattle.ic_sender.specs.declared.answers.Answer as declared
 use Rattle.ic_sender.specs.Sending.{Answer, flight_of, rows_kept}
 use Rattle.ic_expire.specs.Queue.{Queue, IsHeld}
-use Rattle.ic_law.specs.Packets.{RowPacket}
+use Rattle.ic_header.specs.Packets.{RowPacket}
 use Rattle.ic_law.specs.Numbers.{IsIncreasingFrom}
 use Rattle.ic_law.specs.Timers as law
 use Rattle.ic_law.specs.Timing as timing

@@ -17,7 +17,6 @@ mod answers;
 mod flight;
 mod laws;
 mod listing;
-mod making;
 mod numbers;
 mod planning;
 mod put;

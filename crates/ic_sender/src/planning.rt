@@ -8,9 +8,9 @@ ghost use Rattle.ic_sender.specs.Sending.{row_of, kept_at, rows_kept, flight_of}
 ghost use Rattle.ic_sender.specs.Views.{asked_of, with_newest, newest_of, one_of, Plans};
 
 use crate::flight::{Flight, push_datagrams};
-use crate::making::row;
 use crate::numbers::{Asked, Numbers};
 use ic_base::{ConnEnd, Datagram};
+use ic_header::rows_packet;
 use ic_sendring::{Sealed, SendRing};
 use ic_window::Window;
 use std::alloc::{AllocError, Global};
@@ -26,7 +26,7 @@ fn push_row(
     requires { length packet.payload.now ≤ 65507 }
     ensures { OnOk result (out.new.items ≡ out.old.items ++ flight_of end.now now (record { seq = packet.entry.seq; payload = packet.entry.payload.now; last = packet.entry.last }) ∷ []) }
 {
-    let datagram = row(alloc, end, packet.seq, packet.payload, packet.last)?;
+    let datagram = rows_packet(alloc, end, packet.seq, packet.payload, packet.last)?;
     out.push(Flight {
         seq: packet.seq,
         tries: 0,

@@ -11,13 +11,13 @@ ghost use Rattle.ic_sender.specs.Sending.{Sending, spent_of, tried, trying, wait
 ghost use Rattle.ic_sender.specs.Calls.{Tries, Queries, IsNow, LeavesRoom, is_unanswered};
 
 use crate::flight::{Flight, push_copies, retry_all};
-use crate::making::query;
 use crate::numbers::again;
 use crate::send_no::SendNo;
 use crate::sender::Sender;
 use crate::waiting::wait_longer;
 use ic_base::Datagrams;
 use ic_expire::Expiry;
+use ic_header::query_packet;
 use ic_window::Window;
 use std::alloc::{AllocError, Global};
 
@@ -118,7 +118,7 @@ impl Sender {
                         tries: asked.tries,
                     });
                 }
-                let datagram = query(alloc, &self.end, self.numbers.sent)?;
+                let datagram = query_packet(alloc, &self.end, self.numbers.sent)?;
                 Ok(Datagrams::one(alloc, datagram)?)
             }
             _ => Ok(Datagrams::new(alloc)),

@@ -11,7 +11,7 @@ use Rattle.ic_expire.specs.declared.item.Item.{Item}
 use Rattle.ic_expire.specs.Queue.{Queue}
 use Rattle.ic_law.specs.declared.history.HubReply.{HubReply}
 use Rattle.ic_law.specs.declared.history.Entry.{Entry}
-use Rattle.ic_law.specs.Packets.{row_datagram}
+use Rattle.ic_header.specs.Packets.{row_datagram}
 use Rattle.ic_law.specs.History.{datagrams_of, emits, rows_in, rows_emitted_of}
 use Rattle.ic_law.specs.Putting.{puts, chunks_put_of}
 use Rattle.ic_law.specs.Emitting.{query_due}

@@ -10,7 +10,7 @@ use Rattle.ic_header.specs.Spelling.{written}
 use Rattle.ic_header.proofs.Joining.{length-written}
 use Rattle.ic_expire.specs.declared.item.Item.{Item}
 use Rattle.ic_law.specs.declared.history.Entry.{Entry}
-use Rattle.ic_law.specs.Packets.{RowPacket, header_for, rows_flags, goes_forth, row_datagram, query_datagram}
+use Rattle.ic_header.specs.Packets.{RowPacket, header_for, rows_flags, goes_forth, row_datagram, query_datagram}
 use Rattle.ic_law.specs.Filling.{Sealed, sealed_of}
 use Rattle.ic_law.specs.Clock.{clock_of}
 use Rattle.ic_law.specs.Timing.{timing_of, row_at}

@@ -20,7 +20,7 @@ use Rattle.ic_law.specs.declared.history.HubAsk.{HubAsk}
 use Rattle.ic_law.specs.declared.history.HubAsk.TheVariants.{Put, Finish, Arrive}
 use Rattle.ic_law.specs.declared.history.HubReply.{HubReply}
 use Rattle.ic_law.specs.declared.history.Entry.{Entry}
-use Rattle.ic_law.specs.Packets.{Packet, packet_of, header_for, goes_forth, row_datagram, answer_datagram}
+use Rattle.ic_header.specs.Packets.{Packet, packet_of, header_for, goes_forth, row_datagram, answer_datagram}
 use Rattle.ic_law.specs.History.{datagrams_of, rows_in}
 use Rattle.ic_law.specs.Putting.{chunk_put, finishes, is_finish, was_given}
 use Rattle.ic_law.specs.Clock.{ticks_by}

@@ -6,7 +6,7 @@ use Rattle.ic_base.specs.declared.settings.Settings.{Settings}
 use Rattle.ic_expire.specs.declared.item.Item.{Item}
 use Rattle.ic_expire.specs.Queue.{Queue}
 use Rattle.ic_law.specs.declared.history.Entry.{Entry}
-use Rattle.ic_law.specs.Packets.{RowPacket}
+use Rattle.ic_header.specs.Packets.{RowPacket}
 use Rattle.ic_law.specs.Putting.{chunks_put_of, finishes, finished_of}
 use Rattle.ic_law.specs.Clock.{ticks_by}
 use Rattle.ic_law.specs.Timers.{wait_in}

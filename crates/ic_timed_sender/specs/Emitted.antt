@@ -4,7 +4,7 @@ use Rattle.ic_base.specs.declared.keys.ConnEnd.{ConnEnd}
 use Rattle.ic_base.specs.declared.datagram.Datagram.{Datagram}
 use Rattle.ic_header.specs.declared.header.Header.{Header}
 use Rattle.ic_header.specs.Spelling.{Heads}
-use Rattle.ic_law.specs.Packets.{packet_of, key_of, goes_forth, IsSegment}
+use Rattle.ic_header.specs.Packets.{packet_of, key_of, goes_forth, IsSegment}
 use Rattle.ic_sender.specs.Sending.{Sending}
 
 -- A datagram of this end: a header with its body, of the end's connection, to its receiving end, and no longer than

@@ -1,7 +1,7 @@
 // What is put, and the answers that come.
 ghost use Rattle.std.specs.Prelude.{◌≡◌, ◌≤◌, ◌<◌, ◌+◌, ◌++◌, ◌^◌, ℕ, List, length, true, false, IfOk, OnErr};
 ghost use Rattle.ic_header.specs.Spelling.{AllowsBody};
-ghost use Rattle.ic_law.specs.Packets.{goes_forth};
+ghost use Rattle.ic_header.specs.Packets.{goes_forth};
 ghost use Rattle.ic_chunk.specs.Counts.{HasCounted};
 ghost use Rattle.ic_sender.specs.Sending.{adding, ending};
 ghost use Rattle.ic_sender.specs.Calls.{Puts, NeedsPacket, IsNow, WaitsAlone, LeavesRoom, unsent};

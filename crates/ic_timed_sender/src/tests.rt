@@ -1,7 +1,7 @@
 // Short stories with worked values, and what no clause says: that memory serves.
 ghost use Rattle.std.specs.Prelude.{◌≡◌, ◌≤◌, IfOk};
 ghost use Rattle.ic_header.specs.Spelling.{AllowsBody};
-ghost use Rattle.ic_law.specs.Packets.{goes_forth};
+ghost use Rattle.ic_header.specs.Packets.{goes_forth};
 
 use super::*;
 use ic_base::{ConnEnd, ConnKey, Datagrams, Flow, SegId, Settings};

@@ -1,6 +1,6 @@
 use Rattle.std.proofs.Common.{ℤ, pos, negsuc, subst}
 use Rattle.std.specs.Prelude.{◌≤ℤ◌}
-use Rattle.ic_law.specs.Packets.{key_of}
+use Rattle.ic_header.specs.Packets.{key_of}
 use Rattle.gd_sim.proofs.KeyLemmas.{not_same}
 use Rattle.gd_sim.proofs.tally.is_of.Goals as goal
 

@@ -1,5 +1,5 @@
 use Rattle.std.proofs.Common.{true, false, ap}
-use Rattle.ic_law.specs.Packets.{is_rows, is_last}
+use Rattle.ic_header.specs.Packets.{is_rows, is_last}
 use Rattle.ic_hub.proofs.ComingSteps.{asks_rows, asks_query}
 use Rattle.ic_hub.proofs.arrive.ask.Goals as goal
 

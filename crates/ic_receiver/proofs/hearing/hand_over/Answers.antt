@@ -1,7 +1,7 @@
 use Rattle.std.proofs.Common.{◌≡◌, ◌+◌, [], refl, sym, subst, Some}
 use Rattle.ic_header.specs.declared.flags.Flags.TheVariants.{Ack}
 use Rattle.ic_recvring.specs.Ring.{Packet, front_of}
-use Rattle.ic_receiver.specs.Receiving.{IsAnswer}
+use Rattle.ic_header.specs.Packets.{IsAnswer}
 use Rattle.ic_receiver.proofs.Taken.{front_in}
 use Rattle.ic_receiver.proofs.hearing.hand_over.Goals as goal
 

@@ -20,10 +20,10 @@ tell_stored-requires-clause-run_end c = λ gap.
     let w = c.in-Stored.ensures.stores c.run_end-run.result c.run_end-run.ensures.value in
     subst (λ (t : Ring). IsRunEnd (stored_of t) c.run_end-run.result) (sym w.2) (run_behind c.args.ring.now q c.run_end-run.result c.run_end-run.ensures.value gap w.0.1)
 
-pub returns-in_ok-answer-in-Duplicate-clause-hears : goal.returns-in_ok-answer-in-Duplicate-clause-hears
-returns-in_ok-answer-in-Duplicate-clause-hears c =
+pub returns-in_ok-answer_packet-in-Duplicate-clause-hears : goal.returns-in_ok-answer_packet-in-Duplicate-clause-hears
+returns-in_ok-answer_packet-in-Duplicate-clause-hears c =
     let w = c.in-Duplicate.ensures.stores c.run_end-run.result c.run_end-run.ensures.value in
-    Again c.in_ok-answer-in-Duplicate.field-0 c.run_end-run.result c.run_end-run.ensures.value w.0 c.in_ok-answer-in-Duplicate.ensures refl w.1
+    Again c.in_ok-answer_packet-in-Duplicate.field-0 c.run_end-run.result c.run_end-run.ensures.value w.0 c.in_ok-answer_packet-in-Duplicate.ensures refl w.1
 
 pub returns-in-Beyond-clause-hears : goal.returns-in-Beyond-clause-hears
 returns-in-Beyond-clause-hears c =

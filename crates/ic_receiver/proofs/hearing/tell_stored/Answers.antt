@@ -2,8 +2,9 @@ use Rattle.std.proofs.Common.{◌≡◌, ◌+◌, ◌<◌, [], length, ap, ◌�
 use Rattle.ic_recvring.specs.Numbers.{missing}
 use Rattle.ic_recvring.specs.Ring.{stored_of}
 use Rattle.ic_header.specs.declared.flags.Flags.TheVariants.{Ack, Disorder}
-use Rattle.ic_law.specs.Receiving.{listing}
-use Rattle.ic_receiver.specs.Receiving.{IsAnswer, Next, Gap}
+use Rattle.ic_header.specs.Packets.{listing}
+use Rattle.ic_receiver.specs.Receiving.{Next, Gap}
+use Rattle.ic_header.specs.Packets.{IsAnswer}
 use Rattle.ic_receiver.proofs.Numbers.{missing_first, few_missing, greatest_near}
 use Rattle.ic_receiver.proofs.Made.{if_ok, listing_allowed}
 use Rattle.ic_receiver.proofs.hearing.tell_stored.Goals as goal
@@ -11,10 +12,10 @@ use Rattle.ic_receiver.proofs.hearing.tell_stored.Goals as goal
 pub returns-then-seq-run-eq1 : goal.returns-then-seq-run-eq1
 returns-then-seq-run-eq1 c =
     let next : c.args.seq ≡ c.args.run + 1 = omega (arith, c.if-seq-run-eq1.true) in
-    if_ok c.answer.result _ _ (λ d a. Next c.run_end.result next c.run_end.ensures.value (subst (λ n. IsAnswer c.args.end.now Ack c.run_end.result n [] d) c.consumed.ensures.value a)) c.answer.ensures
+    if_ok c.answer_packet.result _ _ (λ d a. Next c.run_end.result next c.run_end.ensures.value (subst (λ n. IsAnswer c.args.end.now Ack c.run_end.result n [] d) c.consumed.ensures.value a)) c.answer_packet.ensures
 
-pub answer_listing-requires-clause-few : goal.answer_listing-requires-clause-few
-answer_listing-requires-clause-few c =
+pub listing_packet-requires-clause-few : goal.listing_packet-requires-clause-few
+listing_packet-requires-clause-few c =
     let gap : c.args.run + 1 < c.args.seq = omega (arith, c.if-seq-run-eq1.false, c.requires.ahead) in
     let one = c.requires.run_end gap in
     let is : c.as_slice.result.now ≡ missing (stored_of c.args.ring.now) c.args.run c.greatest.result = c.as_slice.ensures ∙ c.in_ok-missing.ensures.ok c.args.run c.greatest.result one c.greatest.ensures.value in
@@ -23,8 +24,8 @@ answer_listing-requires-clause-few c =
     let long = ap length is in
     omega (arith, few, near, long, c.requires.depth)
 
-pub answer_listing-requires-clause-allowed : goal.answer_listing-requires-clause-allowed
-answer_listing-requires-clause-allowed c =
+pub listing_packet-requires-clause-allowed : goal.listing_packet-requires-clause-allowed
+listing_packet-requires-clause-allowed c =
     let gap : c.args.run + 1 < c.args.seq = omega (arith, c.if-seq-run-eq1.false, c.requires.ahead) in
     let one = c.requires.run_end gap in
     let is : c.as_slice.result.now ≡ missing (stored_of c.args.ring.now) c.args.run c.greatest.result = c.as_slice.ensures ∙ c.in_ok-missing.ensures.ok c.args.run c.greatest.result one c.greatest.ensures.value in
@@ -38,4 +39,4 @@ returns c =
     let gap : c.args.run + 1 < c.args.seq = omega (arith, c.if-seq-run-eq1.false, c.requires.ahead) in
     let one = c.requires.run_end gap in
     let is : c.as_slice.result.now ≡ missing (stored_of c.args.ring.now) c.args.run c.greatest.result = c.as_slice.ensures ∙ c.in_ok-missing.ensures.ok c.args.run c.greatest.result one c.greatest.ensures.value in
-    if_ok c.answer_listing.result _ _ (λ d a. Gap c.greatest.result gap c.greatest.ensures.value (subst (λ l. IsAnswer c.args.end.now Disorder c.args.seq c.greatest.result (listing l) d) is a)) c.answer_listing.ensures
+    if_ok c.listing_packet.result _ _ (λ d a. Gap c.greatest.result gap c.greatest.ensures.value (subst (λ l. IsAnswer c.args.end.now Disorder c.args.seq c.greatest.result (listing l) d) is a)) c.listing_packet.ensures

@@ -1,5 +1,5 @@
 use Rattle.std.proofs.Common.{subst}
-use Rattle.ic_law.specs.Packets.{IsSegment}
+use Rattle.ic_header.specs.Packets.{IsSegment}
 use Rattle.ic_sender.proofs.sender.named.Goals as goal
 
 pub returns : goal.returns

@@ -1,6 +1,6 @@
 use Rattle.std.proofs.Common.{ap, sym, ◌∙◌, subst, Bool}
 use Rattle.ic_base.specs.declared.keys.ConnKey.{ConnKey}
-use Rattle.ic_law.specs.Packets.{IsSegment, key_of}
+use Rattle.ic_header.specs.Packets.{IsSegment, key_of}
 use Rattle.ic_law.specs.Points.{IsDirected}
 use Rattle.ic_timed_sender.proofs.laws.are_formed.Goals as goal
 

@@ -1,6 +1,6 @@
 use Rattle.std.proofs.Common.{◌<◌, refl, sym, subst, slice_set}
 use Rattle.std.proofs.lemmas.Option.{slice_get_within}
-use Rattle.ic_law.specs.Packets.{key_of}
+use Rattle.ic_header.specs.Packets.{key_of}
 use Rattle.ic_hub.specs.declared.finding.Found.TheVariants.{Here}
 use Rattle.ic_hub.specs.Hubbing.{Hubbing}
 use Rattle.ic_hub.specs.Finding.{IsFound}

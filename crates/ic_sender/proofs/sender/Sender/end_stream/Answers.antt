@@ -2,7 +2,7 @@ use Rattle.std.proofs.Common.{◌≡◌, ◌≤◌, ◌+◌, ◌++◌, [], ◌�
 use Rattle.std.specs.Option.{option_map}
 use Rattle.ic_chunk.specs.Chunks.{spelled, end_of_stream}
 use Rattle.ic_sendring.specs.Ring.{Ring}
-use Rattle.ic_law.specs.Packets.{RowPacket}
+use Rattle.ic_header.specs.Packets.{RowPacket}
 use Rattle.ic_sender.specs.declared.flight.Flight.{Flight}
 use Rattle.ic_sender.specs.declared.numbers.Numbers.{Numbers}
 use Rattle.ic_sender.specs.Sending.{Sending, ending, waiting}

@@ -5,7 +5,7 @@ use Rattle.ic_expire.specs.Items.{is_upto}
 use Rattle.ic_expire.specs.Queue.{Queue, without}
 use Rattle.ic_sendring.specs.Ring.{Ring}
 use Rattle.ic_window.specs.State.{WindowState}
-use Rattle.ic_law.specs.Packets.{RowPacket}
+use Rattle.ic_header.specs.Packets.{RowPacket}
 use Rattle.ic_law.specs.Timers as law
 use Rattle.ic_base.specs.declared.datagram.Datagram.{Datagram}
 use Rattle.ic_sender.specs.declared.flight.Flight.{Flight}

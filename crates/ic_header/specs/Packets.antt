@@ -1,5 +1,5 @@
 -- Packets: what a datagram's bytes read as, and the datagrams that the ends of a connection make.
-use Rattle.std.specs.Prelude.{ℕ, ◌+◌, ℤ, pos, negsuc, ◌≤ℤ◌, List, ◌++◌, length, Bool, true, false, Option, Some, None, Result, Ok, Err}
+use Rattle.std.specs.Prelude.{◌≡◌, ℕ, ◌+◌, ℤ, pos, negsuc, ◌≤ℤ◌, List, [], ◌++◌, length, Bool, true, false, Option, Some, None, Result, Ok, Err}
 use Rattle.ic_base.specs.declared.keys.ConnKey.{ConnKey}
 use Rattle.ic_base.specs.declared.keys.ConnEnd.{ConnEnd}
 use Rattle.ic_base.specs.declared.datagram.Datagram.{Datagram}
@@ -7,7 +7,9 @@ use Rattle.ic_header.specs.declared.header.Header.{Header}
 use Rattle.ic_header.specs.declared.fault.HeaderFault.{HeaderFault}
 use Rattle.ic_header.specs.declared.flags.Flags.{Flags}
 use Rattle.ic_header.specs.declared.flags.Flags.TheVariants.{Rows, LastRows, Query, Ack, Stop, Nak, Disorder, Duplicate}
-use Rattle.ic_header.specs.Spelling.{written}
+use Rattle.std.specs.Int.{w32, to_be_bytes}
+use Rattle.std.specs.List.{flat_map}
+use Rattle.ic_header.specs.Spelling.{written, Heads}
 use Rattle.ic_header.specs.Reading.{read_header}
 
 -- ---- reading
@@ -112,3 +114,38 @@ query_datagram end seq = record { from = end.key.from; to = end.key.to; bytes = 
 abbrev pub answer_datagram : ConnEnd → Flags → ℕ → ℕ → List ℕ → Datagram
 answer_datagram end flags seq extra body =
     record { from = end.key.to; to = end.key.from; bytes = written (header_for end flags (length body) seq extra) ++ body }
+
+-- the body of an answer that lists numbers, four bytes each
+abbrev pub listing : List ℕ → List ℕ
+listing numbers = flat_map (to_be_bytes w32) numbers
+
+-- an answer of this end, and its bytes are its header and its body
+pub record IsAnswer (end : ConnEnd) (flags : Flags) (seq extra : ℕ) (body : List ℕ) (d : Datagram) : Type 0 where
+  pub is : d ≡ answer_datagram end flags seq extra body
+  pub spelled : Heads (header_for end flags (length body) seq extra) body d.bytes
+
+-- The header of an answer where there is no connection. It has the key, the slice numbers and the number of what it answers.
+abbrev pub turned_header : Header → Flags → Header
+turned_header head flags =
+    record {
+      motion = head.motion;
+      src_pid = 0;
+      src_port = 0;
+      dst_pid = 0;
+      dst_port = 0;
+      session = head.session;
+      query = head.query;
+      recv_slice = head.recv_slice;
+      send_slice = head.send_slice;
+      src_content = head.src_content;
+      dst_content = head.dst_content;
+      flags = flags;
+      len = 64;
+      seq = head.seq;
+      extra = 0;
+    }
+
+-- such an answer from one segment to another, and its bytes are its header
+pub record IsTurned (from to : ℤ) (head : Header) (flags : Flags) (d : Datagram) : Type 0 where
+  pub is : d ≡ record { from = from; to = to; bytes = written (turned_header head flags) }
+  pub spelled : Heads (turned_header head flags) [] (written (turned_header head flags))
