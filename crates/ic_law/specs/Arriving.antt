@@ -19,7 +19,7 @@ use Rattle.ic_law.specs.declared.history.HubNo.{HubNo}
 use Rattle.ic_law.specs.declared.history.LeaveNo.TheVariants as leave
 use Rattle.ic_law.specs.declared.history.Unclear.{Unclear}
 use Rattle.ic_law.specs.declared.history.Entry.{Entry}
-use Rattle.ic_header.specs.Packets.{Packet, RowPacket, key_of, goes_forth, IsSegment}
+use Rattle.ic_header.specs.Packets.{turned_header, Packet, RowPacket, key_of, goes_forth, IsSegment}
 use Rattle.ic_law.specs.Queries.{left_of}
 use Rattle.ic_law.specs.Points.{Place, IsDirected, IsLive, IsHere, IsEnded, IsClear}
 use Rattle.ic_law.specs.Receiving.{handled, IsNext, IsTaken}

@@ -16,7 +16,7 @@ use Rattle.ic_law.specs.declared.history.Arrived.TheVariants.{Handled, Dropped}
 use Rattle.ic_law.specs.declared.history.DropCause.TheVariants.{Beyond}
 use Rattle.ic_law.specs.declared.history.HubNo.TheVariants.{Empty, Ended}
 use Rattle.ic_law.specs.declared.history.Entry.{Entry}
-use Rattle.ic_header.specs.Packets.{Packet, RowPacket, packet_of, key_of, answer_datagram}
+use Rattle.ic_header.specs.Packets.{listing, Packet, RowPacket, packet_of, key_of, answer_datagram}
 use Rattle.ic_law.specs.History.{rows_in}
 use Rattle.ic_law.specs.Taking.{parcels_of, IsHalted}
 use Rattle.ic_law.specs.Storing.{stored_of, stored_numbers_of}
