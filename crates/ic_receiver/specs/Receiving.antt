@@ -10,7 +10,7 @@ use Rattle.ic_header.specs.Spelling.{Heads}
 use Rattle.ic_recvring.specs.Numbers.{IsRunEnd, IsGreatest, missing}
 use Rattle.ic_recvring.specs.Ring.{Ring, Packet, stored_of, empty, placed, front_of, after_front, IsRepeated, IsNew, IsBeyond, HasRoom}
 use Rattle.ic_chunk.specs.Counts.{HasCounted}
-use Rattle.ic_header.specs.Packets.{header_for, answer_datagram}
+use Rattle.ic_header.specs.Packets.{IsAnswer, header_for, answer_datagram}
 use Rattle.ic_header.specs.Packets.{listing}
 
 -- An end with the ring of what came, which a halt drops; whole once the packet with the end of stream was taken; and how
