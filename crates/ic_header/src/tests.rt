@@ -1,4 +1,5 @@
 use super::*;
+use ic_base::{ConnEnd, ConnKey, Datagram, SegId};
 use std::test::*;
 
 /// The one packet of a stream of two rows, from segment 0 to the dispatcher. `vectors/header.txt` has it in words.
@@ -52,16 +53,6 @@ const ACK_HEADER: Header = Header {
     extra: 0xfaf9_f8f7,
 };
 
-/// What is read of `size` bytes, all 0 but the crc, the flags and the length told, at most 255 each.
-fn answer(crc: u8, flags: u8, told: u8, size: usize) -> Result<Flags, HeaderFault> {
-    let mut bytes = [0; 80];
-    bytes[47] = crc;
-    bytes[51] = flags;
-    bytes[55] = told;
-    let (header, _) = read(&bytes[..size.min(80)])?;
-    Ok(header.flags)
-}
-
 #[test]
 fn the_last_packet_of_a_stream_is_read_with_its_body(rt: HostRuntime) -> Result<(), Fail> {
     let (header, body) = read(&LAST).ok().ok_or("it is a datagram")?;
@@ -83,85 +74,63 @@ fn each_word_has_its_own_place(rt: HostRuntime) -> Result<(), Fail> {
     Ok(())
 }
 
-#[test]
-fn a_changed_packet_has_the_fault_of_its_change(rt: HostRuntime) {
-    let mut summed = LAST;
-    summed[47] = 1;
-    assert_eq!(rt; read(&summed).err(), Some(HeaderFault::Crc));
-    let mut capped = LAST;
-    capped[51] = 12;
-    assert_eq!(rt; read(&capped).err(), Some(HeaderFault::Flags));
-    let mut longer = [0; 99];
-    longer[..98].copy_from_slice(&LAST);
-    assert_eq!(rt; read(&longer).err(), Some(HeaderFault::Len));
-    assert_eq!(rt; read(LAST.split_at(63).0).err(), Some(HeaderFault::Short));
+/// The sending end of the connection of `LAST`.
+fn end() -> Result<ConnEnd, Fail> {
+    let from = SegId::new(0).ok_or("a segment")?;
+    let to = SegId::DISPATCHER;
+    let key = ConnKey {
+        session: 7,
+        query: 1,
+        motion: 1,
+        from,
+        to,
+    };
+    Ok(ConnEnd {
+        key,
+        sending: true,
+        send_slice: 1,
+        recv_slice: 0,
+    })
 }
 
 #[test]
-fn each_kind_has_the_bodies_of_the_table(rt: HostRuntime) {
-    for (name, flags, size, wanted) in [
-        ("rows of 4 bytes", 0, 68, Ok(Flags::Rows)),
-        ("rows of 3 bytes", 0, 67, Err(HeaderFault::Len)),
-        ("rows of none", 0, 64, Err(HeaderFault::Len)),
-        ("last rows of 5 bytes", 8, 69, Ok(Flags::LastRows)),
-        ("last rows of 3 bytes", 8, 67, Err(HeaderFault::Len)),
-        ("a query", 128, 64, Ok(Flags::Query)),
-        ("a query with a body", 128, 68, Err(HeaderFault::Len)),
-        ("an ack", 3, 64, Ok(Flags::Ack)),
-        ("an ack with a body", 3, 68, Err(HeaderFault::Len)),
-        ("a stop", 5, 64, Ok(Flags::Stop)),
-        ("a stop with a body", 5, 65, Err(HeaderFault::Len)),
-        ("a nak", 17, 64, Ok(Flags::Nak)),
-        ("a nak with a body", 17, 68, Err(HeaderFault::Len)),
-        ("nothing missing", 33, 64, Err(HeaderFault::Len)),
-        ("3 bytes missing", 33, 67, Err(HeaderFault::Len)),
-        ("6 bytes missing", 33, 70, Err(HeaderFault::Len)),
-        ("one number missing", 33, 68, Ok(Flags::Disorder)),
-        ("two numbers missing", 33, 72, Ok(Flags::Disorder)),
-        ("a duplicate", 65, 64, Ok(Flags::Duplicate)),
-        ("a duplicate with a body", 65, 68, Err(HeaderFault::Len)),
-    ] {
-        assert_eq!(rt; answer(0, flags, size, usize::from(size)), wanted, "{name}");
-    }
+fn rows_go_in_the_packet_of_the_vectors(rt: HostRuntime) -> Result<(), Fail> {
+    let packet = rows_packet(rt.alloc(), &end()?, 1, LAST.split_at(64).1, true)?;
+    assert_eq!(rt; packet.bytes.as_slice(), LAST.as_slice());
+    Ok(())
+}
+
+/// The word of the kind, and how many bytes there are.
+fn kind_and_len(packet: &Datagram) -> Option<(u8, usize)> {
+    let bytes = packet.bytes.as_slice();
+    Some((*bytes.get(51)?, bytes.len()))
 }
 
 #[test]
-fn the_first_fault_is_the_one_that_is_named(rt: HostRuntime) {
-    for (name, crc, flags, told, size, wanted) in [
-        ("no byte", 0, 3, 64, 0, HeaderFault::Short),
-        (
-            "a byte too few, all else wrong",
-            1,
-            1,
-            1,
-            63,
-            HeaderFault::Short,
-        ),
-        ("a crc, all else wrong", 1, 1, 1, 64, HeaderFault::Crc),
-        (
-            "no such flags, the length wrong",
-            0,
-            1,
-            1,
-            64,
-            HeaderFault::Flags,
-        ),
-        ("a length one more", 0, 3, 65, 64, HeaderFault::Len),
-        ("a length one less", 0, 3, 63, 64, HeaderFault::Len),
-    ] {
-        assert_eq!(rt;
-            answer(crc, flags, told, size).err(),
-            Some(wanted),
-            "{name}"
-        );
-    }
-    for flags in [
-        1, 2, 4, 6, 7, 9, 12, 16, 18, 32, 34, 64, 66, 127, 129, 136, 255,
-    ] {
-        assert_eq!(rt;
-            answer(0, flags, 64, 64),
-            Err(HeaderFault::Flags),
-            "{flags}"
-        );
-    }
+fn a_status_query_is_made(rt: HostRuntime) -> Result<(), Fail> {
+    let packet = query_packet(rt.alloc(), &end()?, 1)?;
+    assert_eq!(rt; kind_and_len(&packet), Some((128, 64)));
+    Ok(())
+}
+
+#[test]
+fn an_answer_is_made(rt: HostRuntime) -> Result<(), Fail> {
+    let packet = answer_packet(rt.alloc(), &end()?, Flags::Ack, 1, 0)?;
+    assert_eq!(rt; kind_and_len(&packet), Some((3, 64)));
+    Ok(())
+}
+
+#[test]
+fn an_answer_that_lists_numbers_is_made(rt: HostRuntime) -> Result<(), Fail> {
+    let packet = listing_packet(rt.alloc(), &end()?, Flags::Disorder, 4, 4, &[2, 3])?;
+    assert_eq!(rt; kind_and_len(&packet), Some((33, 72)));
+    Ok(())
+}
+
+#[test]
+fn a_packet_is_turned_back(rt: HostRuntime) -> Result<(), Fail> {
+    let here = SegId::DISPATCHER;
+    let packet = turned_packet(rt.alloc(), here, here, &LAST_HEADER, Flags::Nak)?;
+    assert_eq!(rt; kind_and_len(&packet), Some((17, 64)));
+    Ok(())
 }
