@@ -12,7 +12,7 @@ use Rattle.ic_law.specs.Points.{IsDirected}
 use Rattle.ic_law.specs.Arriving.{NoSegment, NotHere, Misdirected, OtherSession, turned_header, turned_back}
 use Rattle.ic_receiver.proofs.Shown.{answer_reads}
 use Rattle.ic_hub_laws.specs.Formed.{AnswersAreFormed, TurnedIsFormed}
-use Rattle.ic_hub_laws.proofs.Telling.{flag_of_true}
+use Rattle.ic_law.proofs.Datagrams.{flag_of_true}
 
 -- ---- answers of an end
 

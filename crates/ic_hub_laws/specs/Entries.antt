@@ -19,7 +19,8 @@ use Rattle.ic_law.specs.Packets.{Packet, packet_of, key_of, goes_forth, IsSegmen
 use Rattle.ic_law.specs.History.{emits}
 use Rattle.ic_law.specs.Points.{Place, IsDirected, IsHere}
 use Rattle.ic_law.specs.Receiving.{handled, Receives}
-use Rattle.ic_law.specs.Arriving.{IsLiveQuery, IsOld, IsForeign, IsUnknownKey, IsOfMotion, unknown, turned_header, turned_back, AnswersTakeAny, AnswersBegin, AnswersClear, AnswersLeave}
+use Rattle.ic_law.specs.Arriving.{IsLiveQuery, IsOld, IsForeign, IsUnknownKey, IsOfMotion, unknown, turned_header, turned_back, AnswersTakeAny, AnswersBegin}
+use Rattle.ic_law.specs.Arriving.{AnswersClear, AnswersLeave}
 use Rattle.ic_law.specs.Spending.{IsFirstSpent}
 use Rattle.ic_law.specs.Hub.{IsReplyTo}
 use Rattle.ic_sender.specs.Standing.{KeepsSending}

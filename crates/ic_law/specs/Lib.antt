@@ -17,6 +17,7 @@ pub mod Timers
 pub mod Timing
 pub mod Emitting
 pub mod Spending
+pub mod Order
 pub mod Emission
 pub mod Armed
 pub mod Hub
