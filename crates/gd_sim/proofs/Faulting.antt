@@ -19,7 +19,7 @@ use Rattle.ic_law.specs.Timers.{Timer}
 use Rattle.ic_law.specs.Spending.{packets_spent, query_spent, spent_of}
 use Rattle.ic_law.specs.Hub.{HubLaw, HubPoint}
 use Rattle.ic_law.proofs.Lists.{Contains-none, Contains-head, Contains-one, Contains-middle, map-Contains, flat_map-append, Contains-flat_map, flat_map-Contains}
-use Rattle.ic_hub_laws.proofs.Lives.{live_push}
+use Rattle.ic_law.proofs.Lives.{live_push}
 use Rattle.ic_port.specs.Calls.{begins, begins_of}
 use Rattle.gd_sim.specs.Run.{PutsOn}
 

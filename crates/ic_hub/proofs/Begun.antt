@@ -1,5 +1,6 @@
 -- A hub stands on where a query begins, or is refused.
-use Rattle.std.proofs.Common.{◌≡◌, ◌≢◌, ◌<◌, ◌≤◌, ℕ, zero, suc, List, [], ◌∷◌, ◌++◌, map, length, take, drop, Bool, true, false, cond, ◌==◌, Option, Some, None, Result, Ok, Err, refl, ap, sym, ◌∙◌, subst, arith, inl, inr, ◌⊎◌, slice_get, is_some, replicate}
+use Rattle.std.proofs.Common.{◌≡◌, ◌≢◌, ◌<◌, ◌≤◌, ℕ, zero, suc, List, [], ◌∷◌, ◌++◌, map, length, take, drop, Bool, true, false, cond, ◌==◌, Option, Some, None}
+use Rattle.std.proofs.Common.{Result, Ok, Err, refl, ap, sym, ◌∙◌, subst, arith, inl, inr, ◌⊎◌, slice_get, is_some, replicate}
 use Rattle.std.specs.Result.{IsErrAnd}
 use Rattle.std.specs.List.{AllByRecursion, Contains}
 use Rattle.std.proofs.lemmas.List.{take-append-drop}
@@ -32,7 +33,7 @@ use Rattle.ic_hub_laws.specs.Entries.{IsOurs, EndsKeep, IsNought, Begins}
 use Rattle.ic_hub_laws.specs.Laws.{AboutNone, IsAhead}
 use Rattle.ic_hub_laws.proofs.Lives.{lives_from, old_upto}
 use Rattle.ic_hub_laws.proofs.Ahead.{stays_ahead, ahead_goes_on}
-use Rattle.ic_hub_laws.proofs.Whole.{law_goes_on, emission_goes_on}
+use Rattle.ic_hub_laws.proofs.Whole.{law_goes_on, emission_goes_on, still_in_order}
 use Rattle.ic_hub_laws.proofs.Nought.{quiet}
 use Rattle.ic_hub_laws.proofs.NoughtPoints.{nought_point}
 use Rattle.ic_hub_laws.proofs.Served.{served_before, served_nobody}
@@ -223,7 +224,7 @@ begun_stands_on s h front back l query ends cut shaped stands are begun fresh aw
     record {
       goes = record {
         law = law_goes_on (place_in s) h e stands.goes.law (nought_point (place_in s) h e about (record { law = stands.goes.law; keeps = keeps; allowed = λ m. are; formed = λ d c. absurd (Contains-none d c) }));
-        emission = emission_goes_on (place_in s) h e stands.goes.emission keeps;
+        emission = emission_goes_on (place_in s) h e stands.goes.emission keeps (still_in_order s.settings h e (quiet (place_in s) h e about).still);
         ahead = ahead_goes_on (place_in s) h e (AboutNone about) stands.goes.ahead;
       };
       clock = clock_stays h e (quiet (place_in s) h e about).still ∙ stands.clock;

@@ -1,5 +1,6 @@
 -- A hub stands on with a datagram that came for one of its connections.
-use Rattle.std.proofs.Common.{◌≡◌, ℕ, List, [], ◌∷◌, ◌++◌, set, not, Bool, true, false, Option, Some, None, Result, Ok, Err, refl, ap, sym, ◌∙◌, subst, inr, ◌⊎◌, slice_get}
+use Rattle.std.proofs.Common.{◌≡◌, ℕ, List, [], ◌∷◌, ◌++◌, set, not, Bool, true, false, Option, Some, None, Result, Ok, Err, refl, ap, sym, ◌∙◌, subst, inr}
+use Rattle.std.proofs.Common.{◌⊎◌, slice_get}
 use Rattle.std.specs.List.{Contains}
 use Rattle.ic_base.specs.declared.keys.ConnKey.{ConnKey}
 use Rattle.ic_base.specs.declared.keys.ConnEnd.{ConnEnd}
@@ -29,20 +30,23 @@ use Rattle.ic_sender.specs.Entries.{IsHearing as IsAnswered, came_of as told}
 use Rattle.ic_timed_sender.specs.Timed.{TimedState, SameEnd}
 use Rattle.ic_timed_sender.specs.Emitted.{IsOutgoingOf}
 use Rattle.ic_timed_sender.specs.Standing.{StandsNext}
-use Rattle.ic_receiver.specs.Receiving.{Receiving, Hears, Stopped, Running, HearsRows, Again, Far, Kept as KeptNow, TellsStored, Next, Gap, HearsQuery, QueryStopped, QueryTold}
+use Rattle.ic_receiver.specs.Receiving.{Receiving, Hears, Stopped, Running, HearsRows, Again, Far, Kept as KeptNow, TellsStored, Next, Gap, HearsQuery}
+use Rattle.ic_receiver.specs.Receiving.{QueryStopped, QueryTold}
 use Rattle.ic_header.specs.Packets.{IsAnswer}
 use Rattle.ic_receiver.specs.Standing.{Stands as ReceiverStands}
 use Rattle.ic_hub_laws.specs.Entries.{IsOurs, OfArrive}
 use Rattle.ic_hub_laws.specs.Formed.{IsFormedOf}
 use Rattle.ic_hub_laws.proofs.Forms.{answers_formed}
 use Rattle.ic_hub_laws.proofs.Served.{served_before}
-use Rattle.ic_hub_laws.proofs.Telling.{rows_is}
+use Rattle.ic_law.proofs.Datagrams.{rows_is}
 use Rattle.ic_hub.specs.declared.finding.Found.TheVariants as says
 use Rattle.ic_hub.specs.Hubbing.{Hubbing, Living, place_in}
 use Rattle.ic_hub.specs.Entries.{arrive_entry, came_of}
 use Rattle.ic_hub.specs.Finding.{IsFound, OfOther, NoSuchKey, OfEnded, OfUnbegun, There, SenderIs, ReceiverIs}
 use Rattle.ic_hub.specs.Standing.{Stands}
-use Rattle.ic_hub.specs.Coming.{Became, kept_of, told_of, Asks, WithRows, WithQuery, HearsForth, ForthWithout, Forth, HearsBack, BackWithout, Strays, Back, ReceiverHears, SenderHears, IsAddressed, ComesToQuery, AtReceiver, AtSender, NoReceiver, NoSender, ToNobody, ToNone, ToQuery, Arrives, Unread, Read}
+use Rattle.ic_hub.specs.Coming.{Became, kept_of, told_of, Asks, WithRows, WithQuery, HearsForth, ForthWithout, Forth, HearsBack, BackWithout, Strays, Back}
+use Rattle.ic_hub.specs.Coming.{ReceiverHears, SenderHears, IsAddressed, ComesToQuery, AtReceiver, AtSender, NoReceiver, NoSender, ToNobody, ToNone, ToQuery}
+use Rattle.ic_hub.specs.Coming.{Arrives, Unread, Read}
 use Rattle.ic_hub.proofs.Places.{Shaped, all_at, contains_at, end_of_receiver, end_of_sender}
 use Rattle.ic_hub.proofs.Finds.{here_is, finds_sender, finds_receiver, no_sender, no_receiver}
 use Rattle.ic_hub.proofs.Moving.{set_same, with_query, with_sender, with_receiver, sender_moved, receiver_moved}

@@ -52,6 +52,20 @@ two_ends place query a b here_a here_b apart_a apart_b differ =
       both = λ x c self. absurd (of_two (λ e. e.key.from ≢ e.key.to) a b x apart_a apart_b c self);
     }
 
+-- segment 0's ends of streams to the dispatcher and to segment 1
+pub stream_ends :
+    (place : Place) (query : ℕ) (a b : ConnEnd) → IsEndHere place query a → IsEndHere place query b → a.key.from ≡ pos 0 → a.key.to ≡ negsuc 0 → b.key.from ≡ pos 0 → b.key.to ≡ pos 1
+    → AreEnds place query (a ∷ b ∷ [])
+stream_ends place query a b here_a here_b from_a to_a from_b to_b =
+    let apart_a : a.key.from ≢ a.key.to = λ same. let bad : pos 0 ≡ negsuc 0 = sym from_a ∙ same ∙ to_a in cc in
+    let apart_b : b.key.from ≢ b.key.to = λ same. let bad : pos 0 ≡ pos 1 = sym from_b ∙ same ∙ to_b in cc in
+    let differ : a.key.to ≢ b.key.to = λ same. let bad : negsuc 0 ≡ pos 1 = sym to_a ∙ same ∙ to_b in cc in
+    record {
+      each = λ x c. of_two (IsEndHere place query) a b x here_a here_b c;
+      once = λ front between back x y are same. let is = two_are a b front between back x y are in absurd (differ (ap (λ e. e.key.to) (sym is.0) ∙ ap (λ k. k.to) same ∙ ap (λ e. e.key.to) is.1));
+      both = λ x c self. absurd (of_two (λ e. e.key.from ≢ e.key.to) a b x apart_a apart_b c self);
+    }
+
 -- the dispatcher's ends of a gather from segments 0 and 1
 pub gather_ends :
     (place : Place) (query : ℕ) (a b : ConnEnd) → IsEndHere place query a → IsEndHere place query b → a.key.from ≡ pos 0 → a.key.to ≡ negsuc 0 → b.key.from ≡ pos 1 → b.key.to ≡ negsuc 0

@@ -1,5 +1,6 @@
 -- Whether a live query could be left, and a hub that is asked so, or left by one.
-use Rattle.std.proofs.Common.{◌≡◌, ◌≢◌, ◌<◌, ◌+◌, ◌↔◌, ℕ, zero, suc, List, [], ◌∷◌, ◌++◌, length, map, take, drop, Bool, true, false, cond, ◌==◌, position, Option, Some, None, Result, Ok, Err, refl, ap, sym, ◌∙◌, subst, inl, inr, ◌⊎◌, slice_get, get_or, arith}
+use Rattle.std.proofs.Common.{◌≡◌, ◌≢◌, ◌<◌, ◌+◌, ◌↔◌, ℕ, zero, suc, List, [], ◌∷◌, ◌++◌, length, map, take, drop, Bool, true, false, cond, ◌==◌, position}
+use Rattle.std.proofs.Common.{Option, Some, None, Result, Ok, Err, refl, ap, sym, ◌∙◌, subst, inl, inr, ◌⊎◌, slice_get, get_or, arith}
 use Rattle.std.specs.Prelude.{IsTrue, IsSome, OnOk, OnErr}
 use Rattle.std.specs.List.{Contains, AllByRecursion}
 use Rattle.std.proofs.lemmas.Bool.{ne_eqb}
@@ -35,7 +36,7 @@ use Rattle.ic_hub_laws.specs.Entries.{IsNought, Clears, Leaves}
 use Rattle.ic_hub_laws.specs.Laws.{AboutNone}
 use Rattle.ic_hub_laws.proofs.Lives.{lives_until, left_tops}
 use Rattle.ic_hub_laws.proofs.Ahead.{ahead_goes_on}
-use Rattle.ic_hub_laws.proofs.Whole.{law_goes_on, emission_goes_on}
+use Rattle.ic_hub_laws.proofs.Whole.{law_goes_on, emission_goes_on, still_in_order}
 use Rattle.ic_hub_laws.proofs.NoughtPoints.{nought_point}
 use Rattle.ic_hub.specs.Hubbing.{Hubbing, Living, IsLiving, IsOfHub, keys_in, Ascend, IsHub, place_in}
 use Rattle.ic_hub.specs.Calls.{IsLiveIn}
@@ -287,7 +288,7 @@ left_stands s h query q l shaped stands here number clear =
     record {
       goes = record {
         law = law_goes_on (place_in s) h e stands.goes.law point;
-        emission = emission_goes_on (place_in s) h e stands.goes.emission keeps;
+        emission = emission_goes_on (place_in s) h e stands.goes.emission keeps (still_in_order s.settings h e refl);
         ahead = ahead_goes_on (place_in s) h e (AboutNone about) stands.goes.ahead;
       };
       clock = clock_stays h e refl ∙ stands.clock;

@@ -17,6 +17,7 @@ pub mod ComingStands
 pub mod ComingQuery
 pub mod Ticking
 pub mod TickingEmits
+pub mod TickingOrder
 pub mod TickingStands
 pub mod TickingRefused
 pub mod Gathers

@@ -1,5 +1,6 @@
 -- A hub stands on with an entry about one end, where that end's connection does.
-use Rattle.std.proofs.Common.{◌≡◌, ◌≢◌, ℕ, zero, suc, ℤ, List, [], ◌∷◌, ◌++◌, set, map, Bool, true, false, ◌==◌, Option, Some, None, Ok, refl, ap, sym, ◌∙◌, subst, arith, inl, inr, ◌⊎◌, slice_get, cond, ◌&&◌, length}
+use Rattle.std.proofs.Common.{◌≡◌, ◌≢◌, ℕ, zero, suc, ℤ, List, [], ◌∷◌, ◌++◌, set, map, Bool, true, false, ◌==◌, Option, Some, None, Ok, refl, ap, sym, ◌∙◌}
+use Rattle.std.proofs.Common.{subst, arith, inl, inr, ◌⊎◌, slice_get, cond, ◌&&◌, length}
 use Rattle.std.specs.List.{AllByRecursion, Contains}
 use Rattle.std.proofs.lemmas.Bool.Decides.{Decides-eqb, Decides-int_eq}
 use Rattle.ic_base.specs.declared.keys.ConnKey.{ConnKey}
@@ -31,11 +32,11 @@ use Rattle.ic_timed_sender.proofs.Silence.{others_pass}
 use Rattle.ic_sender.proofs.Passing.{clock_stays}
 use Rattle.ic_hub_laws.specs.Entries.{IsOurs, HasEnd, EndsKeep, AsksOf, OfPut, OfFinish, OfTakeFrom, OfHalt, OfTake, OfArrive, Concerns, IsNought, NoMemory}
 use Rattle.ic_hub_laws.specs.Living.{BeginsNone, LivesOn}
-use Rattle.ic_hub_laws.specs.Laws.{IsAbout, AboutEnd, AboutNone, Goes}
+use Rattle.ic_hub_laws.specs.Laws.{TicksInOrder, IsAbout, AboutEnd, AboutNone, Goes}
 use Rattle.ic_hub_laws.proofs.Concerned.{still_then, concerned_passes}
 use Rattle.ic_hub_laws.proofs.Lives.{lives_on}
 use Rattle.ic_hub_laws.proofs.Ahead.{ahead_goes_on}
-use Rattle.ic_hub_laws.proofs.Whole.{law_goes_on, emission_goes_on}
+use Rattle.ic_hub_laws.proofs.Whole.{law_goes_on, emission_goes_on, still_in_order}
 use Rattle.ic_hub_laws.proofs.ConcernedPoints.{concerned_point}
 use Rattle.ic_hub_laws.proofs.Nought.{IsQuiet, quiet, nought_passes}
 use Rattle.ic_hub_laws.proofs.NoughtPoints.{nought_point}
@@ -139,6 +140,7 @@ pub record Adds (s new : Hubbing) (h : List Entry) (e : Entry) : Type 0 where
   pub lives : LivesOn h e
   pub about : IsAbout (place_in s) h e
   pub point : EndsKeep (place_in s) h e → HubPoint (place_in s) h e
+  pub order : EndsKeep (place_in s) h e → TicksInOrder s.settings h e
 
 pub adds : (s new : Hubbing) (h : List Entry) (e : Entry) → Stands s h → Adds s new h e → Stands new (h ++ e ∷ [])
 adds s new h e stands a =
@@ -146,7 +148,7 @@ adds s new h e stands a =
     let goes : Goes (place_in s) (h ++ e ∷ []) =
     record {
       law = law_goes_on (place_in s) h e stands.goes.law (a.point keeps);
-      emission = emission_goes_on (place_in s) h e stands.goes.emission keeps;
+      emission = emission_goes_on (place_in s) h e stands.goes.emission keeps (a.order keeps);
       ahead = ahead_goes_on (place_in s) h e a.about stands.goes.ahead;
     } in
     record {
@@ -273,6 +275,7 @@ query_moved s h e q l m end shaped stands moves has about allowed formed takes =
       about = AboutEnd end.key end.sending about (has_end s h q l end shaped stands moves.here has);
       point = λ keeps. concerned_point (place_in s) end.key end.sending h e about (has_end s h q l end shaped stands moves.here has)
           (record { law = stands.goes.law; keeps = keeps; allowed = allowed; formed = formed }) takes;
+      order = λ keeps. still_in_order s.settings h e (still_then (place_in s) end.key end.sending e about);
     })
 
 -- ---- one connection of the query
@@ -458,6 +461,7 @@ nought_stands s h e shaped stands about begins left allowed formed =
       lives = lives_on h e begins left;
       about = AboutNone about;
       point = λ keeps. nought_point (place_in s) h e about (record { law = stands.goes.law; keeps = keeps; allowed = allowed; formed = formed });
+      order = λ keeps. still_in_order s.settings h e (quiet (place_in s) h e about).still;
     })
 
 -- ---- where an end isn't

@@ -1,5 +1,6 @@
 -- What a tick emits: of each connection what is due of it, and nothing else of it.
-use Rattle.std.proofs.Common.{◌≡◌, ◌≢◌, ℕ, zero, suc, List, [], ◌∷◌, ◌++◌, Bool, true, false, Some, None, refl, ap, sym, ◌∙◌, subst, arith, inl, inr, ◌⊎◌, slice_get, append-nil}
+use Rattle.std.proofs.Common.{◌≡◌, ◌≢◌, ℕ, zero, suc, List, [], ◌∷◌, ◌++◌, Bool, true, false, Some, None, Ok, refl, ap, sym, ◌∙◌, subst, arith, inl, inr, ◌⊎◌}
+use Rattle.std.proofs.Common.{slice_get, append-nil}
 use Rattle.std.specs.List.{AllByRecursion, Contains, flat_map}
 use Rattle.std.proofs.lemmas.List.Elements.{Contains-append_cases, Contains-append_left, Contains-append_right}
 use Rattle.ic_base.specs.Keys.{key_eq}
@@ -16,9 +17,10 @@ use Rattle.ic_sender.specs.Entries.{AreAmong}
 use Rattle.ic_timed_sender.specs.Timed.{TimedState, datagrams_due, queries_due}
 use Rattle.ic_timed_sender.specs.Emitted.{IsOutgoingOf, AreOutgoing}
 use Rattle.ic_hub_laws.specs.Entries.{IsSentHere}
-use Rattle.ic_hub_laws.proofs.Telling.{rows_not, queries_not_of, flat_none}
+use Rattle.ic_law.proofs.Datagrams.{rows_not, queries_not_of, flat_none}
 use Rattle.ic_hub.specs.Hubbing.{Hubbing, Living, place_in}
 use Rattle.ic_hub.specs.Standing.{Stands}
+use Rattle.ic_hub.specs.Entries.{tick_entry}
 use Rattle.ic_hub.specs.Ticking.{MayResend, MayAsk, MayTick, emission_of}
 use Rattle.ic_hub.proofs.Places.{Shaped, all_at, contains_at, end_of_sender, one_sender}
 use Rattle.ic_hub.proofs.Ticking.{some_one}
@@ -62,13 +64,17 @@ none_of_other k f o ds one formed apart = flat_none f ds (λ d c. one o.sending.
 abbrev pub AllMay : Hubbing → Type 0
 AllMay s = AllByRecursion MayTick s.live
 
+-- the tick of a hub that may
+abbrev pub its_tick : Hubbing → Entry
+its_tick s = tick_entry (Ok (flat_map emission_of s.live))
+
 may_at : (s : Hubbing) (q : ℕ) (l : Living) → AllMay s → slice_get s.live q ≡ Some l → MayTick l
 may_at s q l all at = all_at MayTick s.live q l all at
 
-packets_formed : (s : Hubbing) (q i : ℕ) (l : Living) (o : TimedState) → AllMay s → slice_get s.live q ≡ Some l → slice_get l.senders i ≡ Some o → AreOutgoing o.sending (datagrams_due o)
+pub packets_formed : (s : Hubbing) (q i : ℕ) (l : Living) (o : TimedState) → AllMay s → slice_get s.live q ≡ Some l → slice_get l.senders i ≡ Some o → AreOutgoing o.sending (datagrams_due o)
 packets_formed s q i l o all at here = (all_at MayResend l.senders i o (may_at s q l all at).packets here).formed
 
-queries_formed : (s : Hubbing) (q i : ℕ) (l : Living) (o : TimedState) → AllMay s → slice_get s.live q ≡ Some l → slice_get l.senders i ≡ Some o → AreOutgoing o.sending (queries_due o)
+pub queries_formed : (s : Hubbing) (q i : ℕ) (l : Living) (o : TimedState) → AllMay s → slice_get s.live q ≡ Some l → slice_get l.senders i ≡ Some o → AreOutgoing o.sending (queries_due o)
 queries_formed s q i l o all at here = (all_at MayAsk l.senders i o (may_at s q l all at).queries here).formed
 
 -- what is read of a connection is read of what is due of it

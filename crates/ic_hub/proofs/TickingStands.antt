@@ -17,7 +17,7 @@ use Rattle.ic_hub_laws.proofs.Spent.{clock_moves}
 use Rattle.ic_hub_laws.proofs.Ticked.{tick_passes}
 use Rattle.ic_hub_laws.proofs.TickPoints.{tick_point}
 use Rattle.ic_hub_laws.proofs.Served.{served_before}
-use Rattle.ic_hub.specs.Hubbing.{Hubbing, Living, IsHub, place_in}
+use Rattle.ic_hub.specs.Hubbing.{Hubbing, Living, IsHub, Ascend, place_in}
 use Rattle.ic_hub.specs.Entries.{tick_entry}
 use Rattle.ic_hub.specs.Standing.{LivingStands, Stands}
 use Rattle.ic_hub.specs.Ticking.{Passes, emission_of, ticked_query, ticked}
@@ -25,15 +25,12 @@ use Rattle.ic_hub.proofs.Places.{Shaped, all_at, at_map, map_at}
 use Rattle.ic_hub.proofs.Shape.{shape_of}
 use Rattle.ic_hub.proofs.Moving.{SameQueries, adds}
 use Rattle.ic_hub.proofs.Ticking.{hub_ticked}
-use Rattle.ic_hub.proofs.TickingEmits.{AllMay, among, sent_here, formed_here}
+use Rattle.ic_hub.proofs.TickingEmits.{AllMay, its_tick, among, sent_here, formed_here}
+use Rattle.ic_hub.proofs.TickingOrder.{in_order}
 
 -- each connection passes
 abbrev pub AllPass : Hubbing → Type 0
 AllPass s = AllByRecursion (λ (l : Living). AllByRecursion Passes l.senders) s.live
-
--- the tick of a hub that may
-abbrev pub its_tick : Hubbing → Entry
-its_tick s = tick_entry (Ok (flat_map emission_of s.live))
 
 pub is_tick : (s : Hubbing) (h : List Entry) → Shaped s → Stands s h → AllMay s → IsTick h (its_tick s)
 is_tick s h shaped stands all = record { ds = flat_map emission_of s.live; ask = refl; reply = refl; each = λ d c. sent_here s h d shaped stands all c }
@@ -65,8 +62,8 @@ living_stands s h q l shaped stands all pass here =
 next_is : (h : List Entry) (now : ℕ) → clock_of h ≡ now → next_clock h ≡ next_tick now
 next_is h now at = omega (arith, at)
 
-pub tick_stands : (s : Hubbing) (h : List Entry) → Shaped s → Shaped (ticked s) → Stands s h → AllMay s → AllPass s → Stands (ticked s) (h ++ its_tick s ∷ [])
-tick_stands s h shaped shaped_then stands all pass =
+pub tick_stands : (s : Hubbing) (h : List Entry) → Shaped s → Ascend s.live → Shaped (ticked s) → Stands s h → AllMay s → AllPass s → Stands (ticked s) (h ++ its_tick s ∷ [])
+tick_stands s h shaped ascend shaped_then stands all pass =
     adds s (ticked s) h (its_tick s) stands (record {
       place = record { session = refl; at = refl; settings = refl };
       shaped = shaped_then;
@@ -80,10 +77,11 @@ tick_stands s h shaped shaped_then stands all pass =
       about = AboutTicks (is_tick s h shaped stands all);
       point = λ keeps. tick_point (place_in s) h (its_tick s) (is_tick s h shaped stands all)
           (record { law = stands.goes.law; keeps = keeps; allowed = λ given. tt; formed = λ d c. formed_here s d shaped all c });
+      order = λ keeps once. in_order s h shaped ascend all stands keeps;
     })
 
 -- the answer of a tick that isn't refused
 pub answered_stands : (s new : Hubbing) (table : Table) (h : List Entry) (ds : List Datagram) → IsHub s table → new ≡ ticked s → ds ≡ flat_map emission_of s.live → AllMay s → AllPass s → Stands s h → Stands new (h ++ tick_entry (Ok ds) ∷ [])
 answered_stands s new table h ds is new_is ds_is all pass stands =
     subst (λ x. Stands x (h ++ tick_entry (Ok ds) ∷ [])) (sym new_is) (subst (λ x. Stands (ticked s) (h ++ tick_entry (Ok x) ∷ [])) (sym ds_is)
-    (tick_stands s h (shape_of s table is) (shape_of (ticked s) table (hub_ticked s table is pass)) stands all pass))
+    (tick_stands s h (shape_of s table is) is.ascend (shape_of (ticked s) table (hub_ticked s table is pass)) stands all pass))

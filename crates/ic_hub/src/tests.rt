@@ -1,5 +1,6 @@
 // Worked rows as stories: what a hub is asked or what comes, and beside it what it replies.
 mod driving;
+mod ordering;
 mod packets;
 mod pair;
 mod telling;

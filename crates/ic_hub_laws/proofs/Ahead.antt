@@ -11,7 +11,7 @@ use Rattle.ic_law.specs.Queries.{leaves, left_of}
 use Rattle.ic_law.specs.Points.{Place, IsHere}
 use Rattle.ic_law.specs.Arriving.{IsLiveQuery, IsOld}
 use Rattle.ic_law.specs.Arriving.{AnswersTakeAny}
-use Rattle.ic_law.specs.Emission.{EmitsDue}
+use Rattle.ic_law.specs.Emission.{EmissionPoint}
 use Rattle.ic_law.specs.Hub.{HubPoint}
 use Rattle.ic_law.proofs.Readings.{every_none, every_push, left_of-push}
 use Rattle.ic_sender.specs.Entries.{IsBefore}
@@ -21,7 +21,7 @@ use Rattle.ic_hub_laws.specs.Laws.{IsAbout, AboutEnd, AboutNone, AboutTicks, Sta
 use Rattle.ic_hub_laws.proofs.Concerned.{nothing_of, receives_apart, answers_none}
 use Rattle.ic_hub_laws.proofs.Nought.{quiet, stops, tells_none}
 use Rattle.ic_hub_laws.proofs.Ticked.{tick_nothing, tick_passes}
-use Rattle.ic_hub_laws.proofs.Lives.{live_push}
+use Rattle.ic_law.proofs.Lives.{live_push}
 use Rattle.ic_hub_laws.proofs.Whole.{law_goes_on, emission_goes_on}
 use Rattle.ic_hub_laws.proofs.ConcernedPoints.{concerned_point}
 use Rattle.ic_hub_laws.proofs.NoughtPoints.{nought_point}
@@ -109,15 +109,15 @@ about_point place h e (AboutNone is) holds take = nought_point place h e is hold
 about_point place h e (AboutTicks is) holds take = tick_point place h e is holds
 
 pub goes_on : GoesOn
-goes_on place h e is holds take emission ahead = record {
+goes_on place h e is holds take order emission ahead = record {
   law = law_goes_on place h e holds.law (about_point place h e is holds take);
-  emission = emission_goes_on place h e emission holds.keeps;
+  emission = emission_goes_on place h e emission holds.keeps order;
   ahead = ahead_goes_on place h e is ahead;
 }
 
 pub goes_first : GoesFirst
 goes_first place = record {
   law = every_none (HubPoint place);
-  emission = every_none (λ before e. (end : ConnEnd) → end.sending ≡ true → IsHere end before → EmitsDue place.settings end before e);
+  emission = every_none (EmissionPoint place);
   ahead = λ end dead young. record { sends = every_none (IsBefore end); receives = every_none (IsSilentReceiving end) };
 }

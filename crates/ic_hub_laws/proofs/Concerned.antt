@@ -31,7 +31,8 @@ use Rattle.ic_sender.specs.Entries.{IsNothingOf, IsSilent}
 use Rattle.ic_receiver.specs.Entries.{IsSilent as IsSilentReceiving}
 use Rattle.ic_hub_laws.specs.Entries.{AsksOf, OfPut, OfFinish, OfTakeFrom, OfTake, OfHalt, OfArrive, Concerns}
 use Rattle.ic_hub_laws.specs.Laws.{PassesSending, ConcernedPasses}
-use Rattle.ic_hub_laws.proofs.Telling.{rows_not, queries_not_of, answer_not, flat_none, emits_of, one_packet}
+use Rattle.ic_law.proofs.Datagrams.{rows_not, queries_not_of, answer_not, flat_none, one_packet}
+use Rattle.ic_hub_laws.proofs.Telling.{emits_of}
 
 -- ---- keys
 

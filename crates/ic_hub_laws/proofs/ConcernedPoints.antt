@@ -21,7 +21,8 @@ use Rattle.ic_law.specs.Hub.{IsReplyTo, IsSendingEnd, MayAnswer, kind_asked, kin
 use Rattle.ic_sender.specs.Standing.{KeepsSending}
 use Rattle.ic_hub_laws.specs.Entries.{HasEnd, AsksOf, OfPut, OfFinish, OfTakeFrom, OfTake, OfHalt, OfArrive, Concerns}
 use Rattle.ic_hub_laws.specs.Laws.{Holds, ConcernedPoint}
-use Rattle.ic_hub_laws.proofs.Telling.{emits_of, flag_of_true, one_packet, unread}
+use Rattle.ic_law.proofs.Datagrams.{flag_of_true, one_packet}
+use Rattle.ic_hub_laws.proofs.Telling.{emits_of, unread}
 use Rattle.ic_hub_laws.proofs.Concerned.{nothing_of, still_then, receives_none, answers_none}
 use Rattle.ic_hub_laws.proofs.Nought.{not_foreign}
 use Rattle.ic_hub_laws.proofs.Whole.{same_whole, sends_whole, same_stays, sends_stay, queries_still, goes_on}

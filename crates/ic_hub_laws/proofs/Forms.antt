@@ -13,7 +13,7 @@ use Rattle.ic_law.specs.Arriving.{NoSegment, NotHere, Misdirected, OtherSession,
 use Rattle.ic_header.specs.Packets.{turned_header}
 use Rattle.ic_receiver.proofs.Shown.{answer_reads}
 use Rattle.ic_hub_laws.specs.Formed.{AnswersAreFormed, TurnedIsFormed}
-use Rattle.ic_hub_laws.proofs.Telling.{flag_of_true}
+use Rattle.ic_law.proofs.Datagrams.{flag_of_true}
 
 -- ---- answers of an end
 

@@ -1,55 +1,19 @@
 -- What one more entry does to who is live.
-use Rattle.std.proofs.Common.{◌≡◌, ◌≢◌, ℕ, List, [], ◌∷◌, ◌++◌, true, cond, Err, refl, ap, sym, ◌∙◌, subst, inl, inr, ◌⊎◌, append_assoc, append-nil, ◌≤◌, max, arith, Bool, false, not}
+use Rattle.std.proofs.Common.{◌≡◌, ◌≢◌, ℕ, List, [], ◌∷◌, ◌++◌, true, cond, refl, ap, sym, ◌∙◌, subst, inl, inr, ◌⊎◌, append-nil, ◌≤◌, max, arith, Bool, false}
+use Rattle.std.proofs.Common.{not}
 use Rattle.std.specs.List.{Contains}
 use Rattle.std.proofs.Math.Decide.{dec_le}
 use Rattle.std.proofs.lemmas.List.Elements.{Contains-append_cases, Contains-append_left, Contains-append_right}
 use Rattle.ic_base.specs.declared.keys.ConnKey.{ConnKey}
 use Rattle.ic_base.specs.declared.keys.ConnEnd.{ConnEnd}
-use Rattle.ic_base.specs.declared.keys.BeginNo.TheVariants.{Old, Twice}
 use Rattle.ic_law.specs.declared.history.HubAsk.TheVariants.{Begin, Leave}
-use Rattle.ic_law.specs.declared.history.HubReply.{HubReply}
-use Rattle.ic_law.specs.declared.history.HubReply.TheVariants.{Begun, Memory}
-use Rattle.ic_law.specs.declared.history.Entry.{Entry}
+use Rattle.ic_law.specs.declared.history.HubReply.TheVariants.{Memory}
 use Rattle.ic_law.specs.Queries.{was_begun, left_by, leaves, left_of}
-use Rattle.ic_law.specs.Points.{Place, IsDirected, IsLive, IsHere}
-use Rattle.ic_law.specs.Arriving.{AnswersBegin, IsOldOne, IsTwice, IsNew}
-use Rattle.ic_law.specs.Hub.{HubLaw}
-use Rattle.ic_law.proofs.Lists.{cut_at, inside, Contains-none, Contains-head, Contains-one, flat_map-append}
+use Rattle.ic_law.specs.Points.{IsDirected, IsLive, IsHere}
+use Rattle.ic_law.proofs.Lists.{Contains-none, Contains-head, Contains-one}
 use Rattle.ic_law.proofs.Readings.{left_of-push}
+use Rattle.ic_law.proofs.Lives.{live_push, live_pull, live_now, live_once}
 use Rattle.ic_hub_laws.specs.Living.{OthersLiveOn, BegunIsLive, LeftIsNotLive, LiveOnce, AreThere, LiveAreThere, SideIsHere, OldUpto, LeftTops}
-use Rattle.ic_hub_laws.proofs.Telling.{entry_is}
-
--- ---- one more entry
-
--- a live query is so after an entry that doesn't leave it
-pub live_push : (q : ℕ) (ends : List ConnEnd) (h : List Entry) (e : Entry) → IsLive q ends h → (Contains (leaves e) q → ⊥) → IsLive q ends (h ++ e ∷ [])
-live_push q ends h e w stays = record {
-  before = w.before;
-  reply = w.reply;
-  after = w.after ++ e ∷ [];
-  all = ap (λ l. l ++ e ∷ []) w.all ∙ append_assoc w.before (record { ask = Begin q ends; reply = w.reply } ∷ w.after) (e ∷ []);
-  begun = w.begun;
-  stays = λ at. elim (Contains-append_cases (left_of w.after) (leaves e) q (subst (λ l. Contains l q) (left_of-push w.after e) at)) [ inl there ↦ w.stays there | inr now ↦ stays now ];
-}
-
--- the entry begins the query
-pub record Starts (q : ℕ) (ends : List ConnEnd) (e : Entry) : Type 0 where
-  pub ask : e.ask ≡ Begin q ends
-  pub begun : was_begun e.reply ≡ true
-
--- a query that is live was so before, or begins with the entry
-pub live_pull : (q : ℕ) (ends : List ConnEnd) (h : List Entry) (e : Entry) → IsLive q ends (h ++ e ∷ []) → Starts q ends e ⊎ (IsLive q ends h × (Contains (leaves e) q → ⊥))
-live_pull q ends h e w =
-    let x : Entry = record { ask = Begin q ends; reply = w.reply } in
-    elim (cut_at h e w.before x w.after w.all) [
-      | inl k ↦ inl (record { ask = ap (λ (y : Entry). y.ask) (sym k.2); begun = ap (λ (y : Entry). was_begun y.reply) (sym k.2) ∙ w.begun })
-      | inr k ↦
-          let both : (n : ℕ) → Contains (left_of k.0 ++ leaves e) n → Contains (left_of w.after) n = (λ n at. subst (λ l. Contains (left_of l) n) (sym k.1) (subst (λ l. Contains l n) (sym (left_of-push k.0 e)) at)) in
-          inr (
-            record { before = w.before; reply = w.reply; after = k.0; all = k.2; begun = w.begun; stays = λ at. w.stays (both q (Contains-append_left (left_of k.0) (leaves e) q at)) },
-            λ at. w.stays (both q (Contains-append_right (left_of k.0) (leaves e) q at)),
-          )
-    ]
 
 -- ---- the three kinds
 
@@ -62,17 +26,6 @@ lives_on h e begins left =
       here = λ end. (λ w. record { ends = w.ends; live = back end.key.query w.ends w.live; stands = w.stands }, λ w. record { ends = w.ends; live = live_push end.key.query w.ends h e w.live (none end.key.query); stands = w.stands });
       left = left_of-push h e ∙ ap (λ l. left_of h ++ l) left ∙ append-nil (left_of h);
     }
-
--- what begins is live
-pub live_now : (q : ℕ) (ends : List ConnEnd) (h : List Entry) (e : Entry) → e.ask ≡ Begin q ends → was_begun e.reply ≡ true → IsLive q ends (h ++ e ∷ [])
-live_now q ends h e ask begun = record {
-  before = h;
-  reply = e.reply;
-  after = [];
-  all = ap (λ x. h ++ x ∷ []) (entry_is e (Begin q ends) e.reply ask refl);
-  begun = begun;
-  stays = Contains-none q;
-}
 
 pub lives_from : BegunIsLive
 lives_from query ends h e ask begun =
@@ -116,53 +69,8 @@ lives_until query h e ask was =
 
 -- ---- once
 
-abbrev begin_of : ℕ → List ConnEnd → HubReply → Entry
-begin_of q ends reply = record { ask = Begin q ends; reply = reply }
-
--- what is begun is answered so only where it isn't live
-not_twice : (q : ℕ) (h : List Entry) (reply : HubReply) → was_begun reply ≡ true → AnswersBegin q h reply → (ends : List ConnEnd) → IsLive q ends h → ⊥
-not_twice q h reply begun (IsOldOne top greatest low is) ends live = let bad : was_begun (Begun (Err (Old top))) ≡ true = ap was_begun (sym is) ∙ begun in cc
-not_twice q h reply begun (IsTwice young live_one is) ends live = let bad : was_begun (Begun (Err Twice)) ≡ true = ap was_begun (sym is) ∙ begun in cc
-not_twice q h reply begun (IsNew young dead is) ends live = dead (ends, live)
-
--- no query begins behind where it began and stays
-not_behind : (place : Place) (h : List Entry) (q : ℕ) (a b : List ConnEnd) → HubLaw place h → (late : IsLive q a h) (early : IsLive q b h) (between : List Entry)
-    → late.before ≡ early.before ++ record { ask = Begin q b; reply = early.reply } ∷ between → early.after ≡ between ++ record { ask = Begin q a; reply = late.reply } ∷ late.after → ⊥
-not_behind place h q a b law late early between front back =
-    let x : Entry = record { ask = Begin q a; reply = late.reply } in
-    let point = law late.before x late.after late.all in
-    let given : late.reply ≢ Memory = (λ memory. let bad : was_begun Memory ≡ true = ap was_begun (sym memory) ∙ late.begun in cc) in
-    not_twice q late.before late.reply late.begun (point.begin q a refl given) b (record {
-      before = early.before;
-      reply = early.reply;
-      after = between;
-      all = front;
-      begun = early.begun;
-      stays = λ at. early.stays (subst (λ l. Contains l q) (sym (ap left_of back ∙ flat_map-append leaves between (x ∷ late.after))) (Contains-append_left (left_of between) (left_of (x ∷ late.after)) q at));
-    })
-
-pub live_once : LiveOnce
-live_once place h q a b law u w =
-    let ea : Entry = record { ask = Begin q a; reply = u.reply } in
-    let eb : Entry = record { ask = Begin q b; reply = w.reply } in
-    elim (inside u.before (ea ∷ u.after) w.before (eb ∷ w.after) (sym u.all ∙ w.all)) [
-      | inl k ↦ first k.0 k.1 k.2
-      | inr k ↦
-          let head : ea ≡ k.0 = let both : ea ∷ u.after ≡ k.0 ∷ (k.1 ++ eb ∷ w.after) = k.3 in cc in
-          let rest : u.after ≡ k.1 ++ eb ∷ w.after = let both : ea ∷ u.after ≡ k.0 ∷ (k.1 ++ eb ∷ w.after) = k.3 in cc in
-          absurd (not_behind place h q b a law w u k.1 (k.2 ∙ ap (λ x. u.before ++ x ∷ k.1) (sym head)) rest)
-    ]
-  where
-    first : (m : List Entry) → u.before ≡ w.before ++ m → m ++ record { ask = Begin q a; reply = u.reply } ∷ u.after ≡ record { ask = Begin q b; reply = w.reply } ∷ w.after → a ≡ b
-    first [] front back =
-        let same : begin_of q a u.reply ≡ begin_of q b w.reply = let both : record { ask = Begin q a; reply = u.reply } ∷ u.after ≡ record { ask = Begin q b; reply = w.reply } ∷ w.after = back in cc in
-        let asks : Begin q a ≡ Begin q b = ap (λ (x : Entry). x.ask) same in
-        cc
-    first (y ∷ m) front back =
-        let both : y ∷ (m ++ record { ask = Begin q a; reply = u.reply } ∷ u.after) ≡ record { ask = Begin q b; reply = w.reply } ∷ w.after = back in
-        let head : y ≡ record { ask = Begin q b; reply = w.reply } = cc in
-        let rest : m ++ record { ask = Begin q a; reply = u.reply } ∷ u.after ≡ w.after = cc in
-        absurd (not_behind place h q a b law u w m (front ∙ ap (λ x. w.before ++ x ∷ m) head) (sym rest))
+pub once_live : LiveOnce
+once_live place h q a b law u w = live_once place h q a b law u w
 
 -- ---- the ends of a live query
 

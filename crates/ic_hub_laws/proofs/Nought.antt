@@ -26,8 +26,9 @@ use Rattle.ic_law.specs.Hearing.{heard_by, was_handled, answer_in}
 use Rattle.ic_law.specs.Queries.{leaves, left_of}
 use Rattle.ic_law.specs.Points.{Place, Emits, IsDirected, IsHere, StopsAsked}
 use Rattle.ic_law.specs.Receiving.{handled}
-use Rattle.ic_law.specs.Arriving.{IsLiveQuery, IsOld, IsForeign, NoSegment, NotHere, Misdirected, OtherSession, NoSuchKey, turned_back, AnswersBegin, IsOldOne, IsTwice, IsNew, AnswersClear, ClearNow, NotClear, AnswersLeave, LeavesNow, LeftUnclear, LeftNothing}
+use Rattle.ic_law.specs.Arriving.{IsLiveQuery, IsOld, IsForeign, NoSegment, NotHere, Misdirected, OtherSession, NoSuchKey, turned_back}
 use Rattle.ic_header.specs.Packets.{turned_header}
+use Rattle.ic_law.specs.Arriving.{AnswersBegin, IsOldOne, IsTwice, IsNew, AnswersClear, ClearNow, NotClear, AnswersLeave, LeavesNow, LeftUnclear, LeftNothing}
 use Rattle.ic_law.specs.Clock.{ticks_by}
 use Rattle.ic_law.specs.Emitting.{queries_in}
 use Rattle.ic_law.specs.Hub.{MayAnswer}
@@ -35,9 +36,11 @@ use Rattle.ic_law.proofs.Lists.{Contains-head, Contains-none, Contains-one}
 use Rattle.ic_law.proofs.Readings.{rows_in-reads, rows_go_forth, left_of-push}
 use Rattle.ic_sender.specs.Entries.{IsNothingOf}
 use Rattle.ic_receiver.specs.Entries.{IsSilent as IsSilentReceiving}
-use Rattle.ic_hub_laws.specs.Entries.{IsOurs, IsNought, NoMemory, UnknownPut, UnknownFinish, UnknownHalt, UnknownTakeFrom, UnknownTake, RefusedTake, Begins, Clears, Leaves, Unread, Strange, EndedQuery, UnbegunQuery, LateAnswer, RefusedTick}
+use Rattle.ic_hub_laws.specs.Entries.{IsOurs, IsNought, NoMemory, UnknownPut, UnknownFinish, UnknownHalt, UnknownTakeFrom, UnknownTake, RefusedTake, Begins}
+use Rattle.ic_hub_laws.specs.Entries.{Clears, Leaves, Unread, Strange, EndedQuery, UnbegunQuery, LateAnswer, RefusedTick}
 use Rattle.ic_hub_laws.specs.Laws.{PassesSending, NoughtPasses}
-use Rattle.ic_hub_laws.proofs.Telling.{rows_not, queries_not_of, answer_not, flat_none, flag_of_true, one_packet, entry_is, unread, TellsNone}
+use Rattle.ic_law.proofs.Datagrams.{rows_not, queries_not_of, answer_not, flat_none, flag_of_true, one_packet, entry_is}
+use Rattle.ic_hub_laws.proofs.Telling.{unread, TellsNone}
 use Rattle.ic_hub_laws.proofs.Concerned.{passes}
 
 -- ---- what it reads as

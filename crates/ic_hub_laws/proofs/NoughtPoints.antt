@@ -20,14 +20,17 @@ use Rattle.ic_law.specs.declared.history.Entry.{Entry}
 use Rattle.ic_header.specs.Packets.{Packet, packet_of, goes_forth}
 use Rattle.ic_law.specs.Queries.{was_left}
 use Rattle.ic_law.specs.Points.{Place, Emits, IsLive, IsHere, IsClear}
-use Rattle.ic_law.specs.Arriving.{Arrives, Stranger, OfEnded, OfNotBegun, TooLate, IsUnknownKey, IsOfMotion, unknown, AnswersTakeAny, AnswersBegin, IsOldOne, IsTwice, IsNew, AnswersClear, ClearNow, NotClear, AnswersLeave, LeavesNow, LeftUnclear, LeftNothing}
+use Rattle.ic_law.specs.Arriving.{Arrives, Stranger, OfEnded, OfNotBegun, TooLate, IsUnknownKey, IsOfMotion, unknown, AnswersTakeAny, AnswersBegin, IsOldOne}
+use Rattle.ic_law.specs.Arriving.{IsTwice, IsNew, AnswersClear, ClearNow, NotClear, AnswersLeave, LeavesNow, LeftUnclear, LeftNothing}
 use Rattle.ic_law.specs.Spending.{IsFirstSpent}
 use Rattle.ic_law.specs.Hub.{HubLaw, IsReplyTo, kind_asked, kind_replied}
-use Rattle.ic_hub_laws.specs.Entries.{IsNought, NoMemory, UnknownPut, UnknownFinish, UnknownHalt, UnknownTakeFrom, UnknownTake, RefusedTake, Begins, Clears, Leaves, Unread, Strange, EndedQuery, UnbegunQuery, LateAnswer, RefusedTick}
+use Rattle.ic_hub_laws.specs.Entries.{IsNought, NoMemory, UnknownPut, UnknownFinish, UnknownHalt, UnknownTakeFrom, UnknownTake, RefusedTake, Begins, Clears}
+use Rattle.ic_hub_laws.specs.Entries.{Leaves, Unread, Strange, EndedQuery, UnbegunQuery, LateAnswer, RefusedTick}
 use Rattle.ic_hub_laws.specs.Laws.{NoughtPoint}
-use Rattle.ic_hub_laws.proofs.Telling.{flag_of_true, one_packet, unread}
+use Rattle.ic_law.proofs.Datagrams.{flag_of_true, one_packet}
+use Rattle.ic_hub_laws.proofs.Telling.{unread}
 use Rattle.ic_hub_laws.proofs.Nought.{IsQuiet, quiet, ask_in, ask_is, stops, tells_none}
-use Rattle.ic_hub_laws.proofs.Lives.{live_once}
+use Rattle.ic_law.proofs.Lives.{live_once}
 use Rattle.ic_hub_laws.proofs.Whole.{same_whole, sends_whole, same_stays, sends_stay}
 use Rattle.ic_hub_laws.proofs.ConcernedPoints.{tick_asked}
 

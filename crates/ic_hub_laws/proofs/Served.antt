@@ -1,5 +1,6 @@
 -- Which sender of a motion was served last.
-use Rattle.std.proofs.Common.{◌≡◌, ℕ, ℤ, List, [], ◌∷◌, ◌++◌, Bool, true, false, cond, ◌&&◌, ◌==◌, Some, None, Ok, refl, ap, sym, ◌∙◌, subst, inl, inr, append_assoc}
+use Rattle.std.proofs.Common.{◌≡◌, ℕ, ℤ, List, [], ◌∷◌, ◌++◌, Bool, true, false, cond, ◌&&◌, ◌==◌, Some, None, Ok, refl, ap, sym, ◌∙◌, subst, inl, inr}
+use Rattle.std.proofs.Common.{append_assoc}
 use Rattle.std.specs.List.{Contains, flat_map}
 use Rattle.std.specs.Ordering.{int_eq}
 use Rattle.std.proofs.lemmas.List.Elements.{Contains-append_cases}
@@ -13,7 +14,7 @@ use Rattle.ic_law.specs.Taking.{takes}
 use Rattle.ic_law.specs.Arriving.{IsServed, Nobody, Somebody}
 use Rattle.ic_law.proofs.Lists.{Contains-none, Contains-one, Contains-flat_map}
 use Rattle.ic_hub_laws.specs.Serving.{ServedBefore, ServedNow, ServedNobody}
-use Rattle.ic_hub_laws.proofs.Telling.{entry_is, flag_of_true}
+use Rattle.ic_law.proofs.Datagrams.{entry_is, flag_of_true}
 
 pub served_before : ServedBefore
 served_before query motion h e None none (Nobody never) = Nobody (λ x from at is. elim (Contains-append_cases h (e ∷ []) x at) [

@@ -20,7 +20,8 @@ use Rattle.ic_sender.specs.Entries.{IsNothingOf}
 use Rattle.ic_receiver.specs.Entries.{IsSilent as IsSilentReceiving}
 use Rattle.ic_hub_laws.specs.Entries.{IsTick}
 use Rattle.ic_hub_laws.specs.Laws.{TickPasses}
-use Rattle.ic_hub_laws.proofs.Telling.{rows_not, queries_not_of, flat_none, flag_of_true, one_packet, entry_is, TellsNone}
+use Rattle.ic_law.proofs.Datagrams.{rows_not, queries_not_of, flat_none, flag_of_true, one_packet, entry_is}
+use Rattle.ic_hub_laws.proofs.Telling.{TellsNone}
 
 -- a tick that emits these datagrams
 abbrev pub ticking : List Datagram → Entry

@@ -18,13 +18,13 @@ use Rattle.ic_law.specs.Clock.{clock_of, ticks_by}
 use Rattle.ic_law.specs.Timers.{Timing}
 use Rattle.ic_law.specs.Timing.{timing_of, settled, moved, rows_at}
 use Rattle.ic_law.specs.Emitting.{query_due, queries_then, emitted_numbers, is_query, queries_in}
-use Rattle.ic_law.specs.Emission.{EmitsDue}
+use Rattle.ic_law.specs.Emission.{EmitsDue, EmissionPoint}
 use Rattle.ic_law.specs.Hub.{HubPoint, HubLaw}
 use Rattle.ic_law.proofs.Lists.{Contains-none}
 use Rattle.ic_law.proofs.Readings.{fold_every, every_push, emitted_of-push, rows_emitted_of-push, chunks_put_of-push, finished_of-push}
 use Rattle.ic_law.proofs.Timings.{timing_of-push}
-use Rattle.ic_hub_laws.specs.Laws.{LawGoesOn, EmissionGoesOn}
-use Rattle.ic_hub_laws.proofs.Telling.{row_of, rows_is, query_is, forth_cases, no_datagram}
+use Rattle.ic_hub_laws.specs.Laws.{LawGoesOn, TicksInOrder, EmissionGoesOn}
+use Rattle.ic_law.proofs.Datagrams.{row_of, rows_is, query_is, forth_cases, no_datagram}
 
 -- ---- of the whole history
 
@@ -129,4 +129,9 @@ pub law_goes_on : LawGoesOn
 law_goes_on place h e law point = every_push (HubPoint place) h e law point
 
 pub emission_goes_on : EmissionGoesOn
-emission_goes_on place h e law keeps = every_push (λ before x. (end : ConnEnd) → end.sending ≡ true → IsHere end before → EmitsDue place.settings end before x) h e law (λ end sends here. (keeps.sending end sends here).emits here)
+emission_goes_on place h e law keeps order =
+    every_push (EmissionPoint place) h e law (record { due = λ end sends here. (keeps.sending end sends here).emits here; order = order })
+
+-- an entry that isn't a tick has no order to keep
+pub still_in_order : (settings : Settings) (h : List Entry) (e : Entry) → ticks_by e.reply ≡ 0 → TicksInOrder settings h e
+still_in_order settings h e still once = let bad : 0 ≡ 1 = sym still ∙ once in absurd cc

@@ -19,8 +19,9 @@ use Rattle.ic_header.specs.Packets.{Packet, packet_of, key_of, goes_forth, IsSeg
 use Rattle.ic_law.specs.History.{emits}
 use Rattle.ic_law.specs.Points.{Place, IsDirected, IsHere}
 use Rattle.ic_law.specs.Receiving.{handled, Receives}
-use Rattle.ic_law.specs.Arriving.{IsLiveQuery, IsOld, IsForeign, IsUnknownKey, IsOfMotion, unknown, turned_back, AnswersTakeAny, AnswersBegin, AnswersClear, AnswersLeave}
+use Rattle.ic_law.specs.Arriving.{IsLiveQuery, IsOld, IsForeign, IsUnknownKey, IsOfMotion, unknown, turned_back, AnswersTakeAny, AnswersBegin}
 use Rattle.ic_header.specs.Packets.{turned_header}
+use Rattle.ic_law.specs.Arriving.{AnswersClear, AnswersLeave}
 use Rattle.ic_law.specs.Spending.{IsFirstSpent}
 use Rattle.ic_law.specs.Hub.{IsReplyTo}
 use Rattle.ic_sender.specs.Standing.{KeepsSending}

@@ -2,6 +2,7 @@
 use Rattle.std.specs.Prelude.{◌≡◌, ◌≢◌, ℕ, List, [], ◌∷◌, ◌++◌, Bool, true, false, Contains}
 use Rattle.ic_base.specs.declared.keys.ConnKey.{ConnKey}
 use Rattle.ic_base.specs.declared.keys.ConnEnd.{ConnEnd}
+use Rattle.ic_base.specs.declared.settings.Settings.{Settings}
 use Rattle.ic_base.specs.declared.datagram.Datagram.{Datagram}
 use Rattle.ic_law.specs.declared.history.HubAsk.TheVariants.{Take}
 use Rattle.ic_law.specs.declared.history.HubReply.TheVariants.{Memory}
@@ -10,6 +11,8 @@ use Rattle.ic_law.specs.History.{emits}
 use Rattle.ic_law.specs.Points.{Place, Every, IsFormed, IsHere}
 use Rattle.ic_law.specs.Asking.{IsAllowed}
 use Rattle.ic_law.specs.Arriving.{IsLiveQuery, IsOld, IsUnknownKey, AnswersTakeAny}
+use Rattle.ic_law.specs.Clock.{ticks_by}
+use Rattle.ic_law.specs.Order.{IsInOrder}
 use Rattle.ic_law.specs.Emission.{EmissionLaw}
 use Rattle.ic_law.specs.Hub.{HubPoint, HubLaw}
 use Rattle.ic_sender.specs.Entries.{IsSilent, IsBefore}
@@ -67,9 +70,13 @@ TickPoint = (place : Place) (h : List Entry) (e : Entry) → IsTick h e → Hold
 abbrev pub LawGoesOn : Type 0
 LawGoesOn = (place : Place) (h : List Entry) (e : Entry) → HubLaw place h → HubPoint place h e → HubLaw place (h ++ e ∷ [])
 
--- what each end emits is what is due, where each keeps its points
+-- if the entry is a tick that isn't refused, it emits in the order of ticks
+abbrev pub TicksInOrder : Settings → List Entry → Entry → Type 0
+TicksInOrder settings h e = ticks_by e.reply ≡ 1 → IsInOrder settings h e
+
+-- what each end emits is what is due, if each keeps its points, and a tick is in order
 abbrev pub EmissionGoesOn : Type 0
-EmissionGoesOn = (place : Place) (h : List Entry) (e : Entry) → EmissionLaw place h → EndsKeep place h e → EmissionLaw place (h ++ e ∷ [])
+EmissionGoesOn = (place : Place) (h : List Entry) (e : Entry) → EmissionLaw place h → EndsKeep place h e → TicksInOrder place.settings h e → EmissionLaw place (h ++ e ∷ [])
 
 -- ---- ends to come
 
@@ -106,7 +113,7 @@ pub record Goes (place : Place) (h : List Entry) : Type 0 where
 abbrev pub GoesFirst : Type 0
 GoesFirst = (place : Place) → Goes place []
 
--- with an entry about an end that is here, about none, or a tick, where each end keeps its points
+-- with an entry about an end that is here, about none, or a tick in order, if each end keeps its points
 abbrev pub GoesOn : Type 0
 GoesOn = (place : Place) (h : List Entry) (e : Entry) → IsAbout place h e → Holds place h e → ((query motion : ℕ) → e.ask ≡ Take query motion → AnswersTakeAny query motion h e.reply)
-    → EmissionLaw place h → AreAhead h → Goes place (h ++ e ∷ [])
+    → TicksInOrder place.settings h e → EmissionLaw place h → AreAhead h → Goes place (h ++ e ∷ [])

@@ -3,7 +3,8 @@ ghost use Rattle.ic_hub_laws.specs.Clocks.{ClockMoves, NothingSpent, PacketSpent
 ghost use Rattle.ic_hub_laws.specs.Serving.{ServedBefore, ServedNow, ServedNobody};
 ghost use Rattle.ic_hub_laws.specs.Formed.{AnswersAreFormed, TurnedIsFormed};
 ghost use Rattle.ic_hub_laws.specs.Living.{LiveAreThere, SideIsHere, OldUpto, LeftTops, OthersLiveOn, BegunIsLive, LeftIsNotLive, LiveOnce};
-ghost use Rattle.ic_hub_laws.specs.Laws.{GoesFirst, GoesOn, ConcernedPasses, NoughtPasses, TickPasses, ConcernedPoint, NoughtPoint, TickPoint, LawGoesOn, EmissionGoesOn, StaysAhead, AheadGoesOn};
+ghost use Rattle.ic_hub_laws.specs.Laws.{GoesFirst, GoesOn, ConcernedPasses, NoughtPasses, TickPasses, ConcernedPoint, NoughtPoint, TickPoint, LawGoesOn};
+ghost use Rattle.ic_hub_laws.specs.Laws.{EmissionGoesOn, StaysAhead, AheadGoesOn};
 
 /// An entry about one end leaves every other end standing.
 pub fn concerned_passes()

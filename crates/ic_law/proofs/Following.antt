@@ -1,5 +1,6 @@
 -- The stream law, from the network law and the laws of the hubs.
-use Rattle.std.proofs.Common.{◌≡◌, ℕ, suc, ◌+◌, ◌-◌, ℤ, List, [], ◌∷◌, ◌++◌, length, map, Bool, true, false, ◌||◌, Option, Some, None, refl, ap, sym, ◌∙◌, subst, arith, inl, inr, ◌⊎◌, append_assoc, append-nil, slice_get}
+use Rattle.std.proofs.Common.{◌≡◌, ℕ, suc, ◌+◌, ◌-◌, ℤ, List, [], ◌∷◌, ◌++◌, length, map, Bool, true, false, ◌||◌, Option, Some, None, refl, ap, sym, ◌∙◌}
+use Rattle.std.proofs.Common.{subst, arith, inl, inr, ◌⊎◌, append_assoc, append-nil, slice_get}
 use Rattle.std.specs.List.{flat_map, Contains, list_any}
 use Rattle.std.proofs.lemmas.List.Elements.{Contains-append_left}
 use Rattle.ic_base.specs.declared.keys.ConnKey.{ConnKey}
@@ -21,7 +22,8 @@ use Rattle.ic_law.specs.Filling.{Sealed, plain, final}
 use Rattle.ic_law.specs.Points.{Place, place_at, IsDirected, IsFormed, final_of, chunks_in, Sends}
 use Rattle.ic_law.specs.Hub.{HubPoint, HubLaw}
 use Rattle.ic_law.specs.Streams.{history_of, NetworkLaw, AreSent, Follows, StreamsFollow}
-use Rattle.ic_law.proofs.Lists.{Contains-none, Contains-flat_map, flat_map-Contains, Contains-middle, prefix_by, get_push, inside, cut_map, map-append, flat_map-append}
+use Rattle.ic_law.proofs.Lists.{Contains-none, Contains-flat_map, flat_map-Contains, Contains-middle, prefix_by, get_push, inside, cut_map, map-append}
+use Rattle.ic_law.proofs.Lists.{flat_map-append}
 use Rattle.ic_law.proofs.Readings.{fold_every, rows_in-reads, rows_go_forth, takes_cases, parcels_of-push}
 use Rattle.ic_law.proofs.Regrouping.{regrouped, regrouped_whole}
 

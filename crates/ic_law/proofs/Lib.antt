@@ -5,4 +5,11 @@ pub mod Following
 pub mod Making
 pub mod Timings
 pub mod Packing
+pub mod Datagrams
+pub mod PacketKinds
+pub mod Lives
+pub mod Deciding
+pub mod Stored
+pub mod Hearing
+pub mod Drained
 pub mod LogLemmas

@@ -1,5 +1,6 @@
 -- The datagrams that the ends of a connection make read back as what they were made of.
-use Rattle.std.proofs.Common.{lit<, ◌≡◌, ℕ, ◌+◌, ◌<◌, ◌≤◌, ◌^◌, ℤ, pos, negsuc, zero, suc, List, [], ◌∷◌, length, Bool, true, false, cond, ◌&&◌, Some, refl, ap, ◌∙◌, subst, arith, append-nil}
+use Rattle.std.proofs.Common.{lit<, ◌≡◌, ℕ, ◌+◌, ◌<◌, ◌≤◌, ◌^◌, ℤ, pos, negsuc, zero, suc, List, [], ◌∷◌, length, Bool, true, false, cond, ◌&&◌, Some, refl, ap}
+use Rattle.std.proofs.Common.{◌∙◌, subst, arith, append-nil}
 use Rattle.std.specs.Prelude.{◌≤ℤ◌, leb, T, FitsSigned}
 use Rattle.std.specs.Int.{w32, cast_unsigned}
 use Rattle.std.proofs.lemmas.Bool.{leb-true}
@@ -11,7 +12,8 @@ use Rattle.ic_header.specs.declared.flags.Flags.{Flags}
 use Rattle.ic_header.specs.declared.flags.Flags.TheVariants.{Rows, LastRows, Query, Ack, Stop, Nak, Disorder, Duplicate}
 use Rattle.ic_header.specs.Spelling.{written, flags_word, AllowsBody, IsInRange, Heads}
 use Rattle.ic_header.proofs.Joining.{Heads-written, reads_again, reads_spelled}
-use Rattle.ic_header.specs.Packets.{packet_read, packet_of, is_rows, is_last, IsSegment, header_for, rows_flags, RowPacket, row_datagram, query_datagram, answer_datagram}
+use Rattle.ic_header.specs.Packets.{packet_read, packet_of, is_rows, is_last, IsSegment, header_for, rows_flags, RowPacket, row_datagram, query_datagram}
+use Rattle.ic_header.specs.Packets.{answer_datagram}
 use Rattle.ic_law.specs.History.{rows_read, rows_in}
 
 -- the names of an end fit the words of headers

@@ -11,6 +11,7 @@ use Rattle.ic_law.specs.Points.{Place, Every, IsHere}
 use Rattle.ic_law.specs.Clock.{ticks_by}
 use Rattle.ic_law.specs.Emitting.{rows_then, queries_then, queries_in}
 use Rattle.ic_law.specs.Spending.{NoneSpent}
+use Rattle.ic_law.specs.Order.{IsInOrder}
 
 -- An entry emits exactly these packets of rows and status queries, and a packet of one number is always the same datagram.
 pub record EmitsDue (settings : Settings) (end : ConnEnd) (before : List Entry) (e : Entry) : Type 0 where
@@ -20,6 +21,12 @@ pub record EmitsDue (settings : Settings) (end : ConnEnd) (before : List Entry) 
   pub query_datagrams : (d : Datagram) (seq : ℕ) → Contains (emits e) d → queries_in end.key d ≡ seq ∷ [] → d ≡ query_datagram end seq
   pub unspent : ticks_by e.reply ≡ 1 → NoneSpent settings end.key before
 
--- each entry of a history emits what is due, on each connection that is sent on here
+-- The points of emission of one entry. With any other reply than a tick's, one connection alone emits, and its packets
+-- are one list: those that go out again, as a Disorder lists them, and then those that go out for the first time, by number.
+pub record EmissionPoint (place : Place) (before : List Entry) (e : Entry) : Type 0 where
+  pub due : (end : ConnEnd) → end.sending ≡ true → IsHere end before → EmitsDue place.settings end before e
+  pub order : ticks_by e.reply ≡ 1 → IsInOrder place.settings before e
+
+-- each entry of a history emits what is due on each connection that is sent on here, and a tick in its order
 abbrev pub EmissionLaw : Place → List Entry → Type 0
-EmissionLaw place h = Every (λ before e. (end : ConnEnd) → end.sending ≡ true → IsHere end before → EmitsDue place.settings end before e) h
+EmissionLaw place h = Every (EmissionPoint place) h

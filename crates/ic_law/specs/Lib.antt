@@ -16,6 +16,7 @@ pub mod Timers
 pub mod Timing
 pub mod Emitting
 pub mod Spending
+pub mod Order
 pub mod Emission
 pub mod Armed
 pub mod Hub

@@ -1,5 +1,6 @@
 -- What a receiving end answers, by what it stored and what was taken before.
-use Rattle.std.specs.Prelude.{◌≡◌, ◌≢◌, ℕ, zero, suc, ◌+◌, ◌-◌, ◌<◌, ◌≤◌, ◌⊎◌, List, [], ◌∷◌, ◌++◌, length, Bool, true, not, filter, ◌==◌, Some, Ok, Err, Contains}
+use Rattle.std.specs.Prelude.{◌≡◌, ◌≢◌, ℕ, zero, suc, ◌+◌, ◌-◌, ◌<◌, ◌≤◌, ◌⊎◌, List, [], ◌∷◌, ◌++◌, length, Bool, true, not, filter, ◌==◌, Some, Ok, Err}
+use Rattle.std.specs.Prelude.{Contains}
 use Rattle.std.specs.List.{flat_map, list_any}
 use Rattle.std.specs.Int.{w32, to_be_bytes}
 use Rattle.ic_base.specs.declared.keys.ConnKey.{ConnKey}

@@ -1,5 +1,6 @@
 -- What a sending end emits for the first time, when a status query stands, and its timing after a history.
-use Rattle.std.specs.Prelude.{ℕ, ◌-◌, List, [], ◌∷◌, ◌++◌, map, false, ◌&&◌, ◌==◌, if◌then◌else◌, Option, Some, None, slice_get, ◌+◌, min, nat_le, nat_lt, zero, suc, length}
+use Rattle.std.specs.Prelude.{ℕ, ◌-◌, List, [], ◌∷◌, ◌++◌, map, false, ◌&&◌, ◌==◌, if◌then◌else◌, Option, Some, None, slice_get, ◌+◌, min, nat_le, nat_lt, zero}
+use Rattle.std.specs.Prelude.{suc, length}
 use Rattle.std.specs.List.{flat_map}
 use Rattle.ic_base.specs.declared.keys.ConnKey.{ConnKey}
 use Rattle.ic_law.specs.declared.history.Entry.{Entry}

@@ -14,7 +14,7 @@ use Rattle.ic_law.specs.declared.history.Entry.{Entry}
 use Rattle.ic_law.specs.Queries.{left_by}
 use Rattle.ic_law.specs.Points.{IsLive}
 use Rattle.ic_law.specs.Asking.{AreEnds}
-use Rattle.ic_hub_laws.proofs.Lives.{live_now}
+use Rattle.ic_law.proofs.Lives.{live_now}
 use Rattle.ic_hub.specs.Hubbing.{Hubbing}
 use Rattle.ic_hub.specs.Standing.{Stands}
 use Rattle.ic_hub.specs.Calls.{SamePlace}

@@ -22,7 +22,7 @@ use Rattle.ic_law.specs.History.{datagram_in, arrived_of}
 use Rattle.ic_law.specs.Queries.{left_by, left_of}
 use Rattle.ic_law.specs.Points.{IsLive}
 use Rattle.ic_law.proofs.Lists.{flat_map-append, Contains-none}
-use Rattle.ic_hub_laws.proofs.Lives.{live_push}
+use Rattle.ic_law.proofs.Lives.{live_push}
 use Rattle.ic_hub.specs.Hubbing.{Hubbing}
 use Rattle.ic_hub.specs.Standing.{Stands}
 use Rattle.ic_hub.specs.Entries.{begun_of, gave_of, took_of, ticked_of}

@@ -19,7 +19,7 @@ use Rattle.ic_law.specs.Receiving.{AnswersTake, Over, None as NoneThere, Taken}
 use Rattle.ic_law.specs.Arriving.{IsOfMotion, AnswersTakeAny, AllOver, NoneReady, Serves}
 use Rattle.ic_law.specs.Hub.{HubLaw}
 use Rattle.ic_law.proofs.Lists.{Contains-none}
-use Rattle.ic_hub_laws.proofs.Lives.{live_once}
+use Rattle.ic_law.proofs.Lives.{live_once}
 use Rattle.ic_hub.specs.Entries.{take_entry, take_from_entry}
 use Rattle.ic_hub.specs.Hubbing.{Hubbing}
 use Rattle.ic_hub.specs.Standing.{Stands}

@@ -51,7 +51,7 @@ pub fn begun(alloc: Global, at: i32) -> Result<Hub, Fail> {
 }
 
 /// Where the hub is.
-fn at(hub: &Hub) -> SegId
+pub fn at(hub: &Hub) -> SegId
     ensures { result ≡ hub.now.at }
 {
     hub.at
@@ -117,14 +117,14 @@ fn begin(hub: &mut Hub, alloc: Global, query: u32) -> Result<Result<(), BeginNo>
 }
 
 /// The tuple chunk of a row with one whole number.
-fn chunk(row: u8) -> [u8; 15]
+pub fn chunk(row: u8) -> [u8; 15]
     ensures { result ≡ 0 ∷ 11 ∷ 0 ∷ 0 ∷ 0 ∷ 1 ∷ 1 ∷ 0 ∷ 0 ∷ 0 ∷ 0 ∷ 0 ∷ 0 ∷ 0 ∷ row ∷ [] }
 {
     [0, 11, 0, 0, 0, 1, 1, 0, 0, 0, 0, 0, 0, 0, row]
 }
 
 /// Does nothing but look. Its clause: settings are checked, so that a chunk of a row has room.
-fn has_room(hub: &Hub)
+pub fn has_room(hub: &Hub)
     ensures { 128 ≤ hub.now.settings.packet }
 {
     let _table = &hub.table;

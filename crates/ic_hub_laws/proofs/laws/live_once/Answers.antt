@@ -1,5 +1,5 @@
-use Rattle.ic_hub_laws.proofs.Lives.{live_once}
+use Rattle.ic_hub_laws.proofs.Lives.{once_live}
 use Rattle.ic_hub_laws.proofs.laws.live_once.Goals as goal
 
 pub returns : goal.returns
-returns c = live_once
+returns c = once_live

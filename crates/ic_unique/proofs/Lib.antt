@@ -1,0 +1,12 @@
+pub mod Asks
+pub mod Takes
+pub mod Arrivals
+pub mod Alike
+pub mod Emitting
+pub mod Given
+pub mod Orders
+pub mod Ticks
+pub mod Unique
+pub mod Runs
+pub mod Forced
+pub mod Stories
