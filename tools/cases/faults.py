@@ -22,6 +22,7 @@ MENDED = [b"-0", b"1.0", b"1e2", b"0e1", b"1e999", b"01", b"+1", b".5", b"1.", b
 MENDED += [b'"\\ud834\\udd1e"', b'"\\ud834"', b'"\\udd1e"', b'"\\ud834\\u0061"', b'"\\x41"', b'"\x00"', b'"\x7f"', b'"\t"', b'"\xc3"', b'"\xed\xa0\x80"', b'"a']
 MENDED += [b"[1,]", b"[,1]", b"[1 2]", b'{"a":1,}', b"{a:1}", b'{"a"}', b'{"a":1,"a":2}', b"/* */1", b"1//", b"\xa01", b"\xef\xbb\xbf1", b"123456789012345678901234567890"]
 MENDED += [b"9" * 400, *(b"[" * depth + b"]" * depth for depth in (125, 126, 127, 128, 200))]
+MENDED += [b"[" * depth + b"1" + b"]" * depth for depth in (126, 127)]
 
 
 def no_json(rng: random.Random) -> bytes:

@@ -49,7 +49,7 @@ def quoted(word: str) -> str:
 
 
 def line_of(case: Case) -> str | None:
-    """A command that gives the program this case, where it isn't too long to be read."""
+    """A command that gives the program this case, unless it is too long to be read."""
     words = " ".join(["./icq", *map(quoted, case.words)])
     if case.source.isascii() and case.source.decode().isprintable():
         line = f"echo {shlex.quote(case.source.decode())} | {words}"

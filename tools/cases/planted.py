@@ -128,7 +128,7 @@ CHANGES: dict[str, Callable[[Given], None]] = {
     "rule 9 told as 8": lambda given: last_line(given, 3, 8, lambda rule: b"8" if rule == b"9" else rule),
     "a worker more with rule 12": lambda given: last_line(given, 3, 10, lambda told: told if b"workers" not in given.lines[-1] else more(told)),
     "the path of a fault without its last step": forget_the_path,
-    "killed behind its whole answer": die,
+    "killed after its whole answer": die,
     "an answer that never ends": write_on,
     "no answer at all": hang,
 }
@@ -136,7 +136,7 @@ CHANGES: dict[str, Callable[[Given], None]] = {
 WORDS: dict[str, Callable[[list[str]], list[str]]] = {
     "a number that begins with 0 is taken": lambda words: [word.replace("=0", "=") if word.startswith("drop=01") else word for word in words],
     "a second word is taken": lambda words: words[:2],
-    "losses behind send 50 are forgotten": lambda words: words[:1] + [fewer(word) for word in words[1:] if fewer(word) != "drop="],
+    "losses after send 50 are forgotten": lambda words: words[:1] + [fewer(word) for word in words[1:] if fewer(word) != "drop="],
 }
 
 

@@ -130,7 +130,7 @@ def near_the_limits(rng: random.Random, rule: int) -> dict:
 
 
 def aiming(rng: random.Random, rule: int) -> dict:
-    """A document whose first broken rule is this one, where one of 500 tries finds it."""
+    """A document whose first broken rule is this one, if one of 500 tries finds it."""
     document = any_document(rng, [0, 1])
     for _ in range(500):
         if rule > 10:

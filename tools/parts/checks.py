@@ -8,7 +8,7 @@ class Checks:
         self.failed = 0
 
     def __call__(self, holds: object, place: object, what: str) -> bool:
-        """Counts it, and tells it where it doesn't hold."""
+        """Counts it, and tells it if it doesn't hold."""
         if holds:
             self.passed += 1
         else:

@@ -135,12 +135,12 @@ def check_claims(check: Checks, page: Path) -> None:
     homes = [page.parent.name] if page.parent.parent == code.CRATES else list(crates())
     for number, cell in columns(text_of(page), "clause"):
         for word in ticked(cell):
-            named = any(code.is_named(word, crate, far=len(homes) == 1) for crate in homes)
+            named = any(code.is_named(word, crate) for crate in homes)
             check(named, f"{page}:{number}", f"no {word} in the code of {homes[0] if len(homes) == 1 else 'any crate'}")
-        for given, owner in re.findall(r"((?:`[^`]+`(?:, | and )?)+) of `([^`]+)`", cell) if len(homes) == 1 else []:
-            contract = code.contracts_in(homes[0]).get(function_of(owner))
-            for word in ticked(given) if contract is not None else []:
-                right = word.split(".")[0] in contract or word in code.contracts_in(homes[0])
+        for given, owner in re.findall(r"((?:`[^`]+`(?:, | and )?)+) of `([^`]+)`", cell):
+            contracts = [code.contracts_in(crate) for crate in homes if function_of(owner) in code.contracts_in(crate)]
+            for word in ticked(given) if contracts else []:
+                right = any(word.split(".")[0] in it[function_of(owner)] or word in it for it in contracts)
                 check(right, f"{page}:{number}", f"{owner} has no clause {word}")
     for number, cell in columns(text_of(page), "edit"):
         for word in ticked(cell):

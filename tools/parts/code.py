@@ -41,7 +41,7 @@ def names_in(crate: str) -> frozenset[str]:
 
 @lru_cache(maxsize=None)
 def contracts_in(crate: str) -> dict[str, set[str]]:
-    """The names of the clauses of each function, and '' where it promises something without a name."""
+    """The names of the clauses of each function, and '' if it promises something without a name."""
     found: dict[str, set[str]] = {}
     for path in (CRATES / crate / "src").rglob("*.rt"):
         for part in re.split(r"\bfn\s+", code_of(path))[1:]:
@@ -72,7 +72,7 @@ def parts_of(word: str) -> list[str]:
 
 
 def is_named(word: str, crate: str, far: bool = False) -> bool:
-    """Whether it is a name of the crate's code or a file of the crate; where it may be far, also of a crate below."""
+    """Whether it is a name of the crate's code or a file of the crate; if it may be far, also of a crate below."""
     if "/" in word:
         return any(next(base.glob(word), None) for base in (Path(), CRATES / crate))
     if re.search(r"\.(?:rt|antt|edit)$", word):

@@ -19,29 +19,29 @@ def names_of(file: Path) -> frozenset[str]:
     return frozenset(name for pattern in code.NAMES for name in pattern.findall(code.code_of(file)))
 
 
-def files_in(row: Row, head: str) -> list[Path]:
-    """The files that a cell names: below the folder of its column's head, or the one named above, or in the section's crate."""
-    below = re.search(r"crates/[\w/]+", head)
-    folder = Path(below[0] if below else row.file or f"crates/{row.crate}/specs")
-    folder = folder.parent if folder.suffix else folder
+def files_in(row: Row, names: list[str]) -> list[Path]:
+    """The files of these names: definitions in the folder specs, code in src of the section's crate; of a crate all of them."""
     found: list[Path] = []
-    for named in ticked(row.cells[head]):
-        if named in crates():
-            found += Path("crates", named, "specs").glob("*.antt")
+    for name in names:
+        if name in crates():
+            found += Path("crates", name, "specs").glob("*.antt")
+        elif name.startswith("crates/"):
+            found.append(Path(name))
         else:
-            found.append(Path(named) if named.startswith("crates/") else (folder.parent if named.startswith("src/") else folder) / named)
+            folder = "src" if name.endswith(".rt") else "specs"
+            found.append(Path("crates", row.home or "", folder, name.removeprefix("src/").removeprefix("specs/")))
     return found
 
 
 def files_of(found: Iterator[Row]) -> Iterator[tuple[Row, list[Path]]]:
-    """Each row with the files that it is about: those of its column `file`, `same` for the ones before; else the one named above."""
+    """Each row with the files that it is about: those of its column `file`, `same` for the ones before; else those named above."""
     last: list[Path] = []
     for row in found:
         head = next((head for head in row.heads if head.startswith("file")), None)
         if head is None:
-            last = [Path(row.file)] if row.file else []
+            last = files_in(row, row.files)
         elif "same" not in row.cells[head] or ticked(row.cells[head]):
-            last = files_in(row, head)
+            last = files_in(row, ticked(row.cells[head]))
         yield row, last
 
 

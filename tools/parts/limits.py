@@ -53,7 +53,7 @@ def check_sizes(check: Checks) -> None:
         size = lines_in(path)
         check(size <= DEFINITIONS, path, f"has {size} lines, and at most {DEFINITIONS} are allowed")
     for path in sorted([*Path().rglob("*.rt"), *Path().rglob("*.antt")]):
-        check(path.parts[0] == "crates" or not is_ours(path), path, "stands outside of crates/")
+        check(path.parts[0] == "crates" or not is_ours(path), path, "lies outside of crates/")
 
 
 def check_width(check: Checks, page: Path) -> None:

@@ -13,7 +13,7 @@ from .checks import Checks
 from .pages import blocks, prose, text_of, ticked
 
 PLACES = {"crates", "docs", "examples", "tools", "vectors", "bench", ".ci", "src", "specs", "proofs", "must-fail"}
-LAUNCHER = ("--try", "--help", "--version")  # words of the script icq, where it has them
+LAUNCHER = ("--try", "--help", "--version")  # words of the script icq, if it has them
 
 
 # ---- commands
@@ -41,7 +41,7 @@ def answer_of(line: str) -> str | None:
 
 
 def check_commands(check: Checks, page: Path) -> None:
-    """Each command names what is there; output that is shown behind a run of the program is that of this run."""
+    """Each command names what is there; output that is shown after a run of the program is that of this run."""
     found = blocks(text_of(page))
     for place, (begin, lines) in enumerate(found):
         for number, line in enumerate(lines, begin):

@@ -63,13 +63,14 @@ def prose(text: str) -> list[tuple[int, str]]:
 
 @dataclass
 class Row:
-    """A row of a table: its line, its cells by the heads of their columns, and what the text above it named last."""
+    """A row of a table: its line, its cells by the heads of their columns, and what the text above it names."""
 
     number: int
     cells: dict[str, str]
     heads: list[str]
-    crate: str | None  # of the section
-    file: str | None  # of definitions or of code, or the folder of such files
+    crate: str | None  # the last one in the section
+    home: str | None  # the one in the heading, or at the beginning of a line since
+    files: list[str]  # those of the last line that names files of code
 
 
 def cells_of(line: str) -> list[str]:
@@ -79,19 +80,21 @@ def cells_of(line: str) -> list[str]:
 def rows(text: str) -> Iterator[Row]:
     """The rows of all tables of a page."""
     heads: list[str] = []
-    previous, crate, file = "", None, None
+    previous, crate, home, files = "", None, None, []
     for number, line in prose(text):
+        words = ticked(line)
         if line.startswith("#"):
-            crate = next((word for word in re.findall(r"\w+", line) if word in crates()), None)
-            file = None
+            crate = home = next((word for word in re.findall(r"\w+", line) if word in crates()), None)
+            files = []
         if not line.lstrip().startswith("|"):
             heads = []
-            crate = next((word for word in reversed(ticked(line)) if word in crates()), crate)
-            file = next((word for word in reversed(ticked(line)) if re.search(r"/.*\.(?:rt|antt)$|^crates/\w+/specs$", word)), file)
+            crate = next((word for word in reversed(words) if word in crates()), crate)
+            home = words[0] if words[:1] and words[0] in crates() and line.startswith("`") else home
+            files = [word for word in words if re.search(r"\.(?:rt|antt)$", word)] or files
         elif re.fullmatch(r"[\s|:-]+", line) and "-" in line:
             heads = [cell.strip("*` ").lower() for cell in cells_of(previous)]
         elif heads:
-            yield Row(number, dict(zip(heads, cells_of(line))), heads, crate, file)
+            yield Row(number, dict(zip(heads, cells_of(line))), heads, crate, home, files)
         previous = line
 
 

@@ -34,7 +34,7 @@ def sources() -> list[Path]:
 
 
 def unfit() -> str | None:
-    """Why the built program can't be tried, with what to do; None where it can."""
+    """Why the built program can't be tried, with what to do; None if it can."""
     name = PROGRAM.relative_to(TOP)
     if not os.access(PROGRAM, os.X_OK):
         return f"there is no program {name}: build it by ./icq, or by rt ci"
@@ -45,7 +45,7 @@ def unfit() -> str | None:
 
 
 def ask(program: Path, words: list[str], source: bytes, wanted: int = 0, seconds: float = SECONDS) -> Asked:
-    """Runs the program on these words and this input. It is stopped where it takes longer, or writes much more than is wanted."""
+    """Runs the program on these words and this input. It is stopped if it takes longer, or writes much more than is wanted."""
     with tempfile.TemporaryFile() as given:
         given.write(source)
         given.seek(0)

@@ -56,7 +56,7 @@ class Wide:
 
 
 def read_value(bytes_: bytes, at: int) -> tuple[object, int]:
-    """The value that begins there, and the place behind it."""
+    """The value that begins there, and the place after it."""
     sizes = {0: 0, 1: 8, 2: 4, 3: 16}
     tag = bytes_[at] if at < len(bytes_) else None
     end = at + 1 + sizes.get(tag, 0)

@@ -26,7 +26,7 @@ class Seen:
 
 @dataclass
 class Node:
-    """A node with its number in preorder and what stands above it, the nearest first."""
+    """A node with its number in preorder and what is above it, the nearest first."""
 
     value: dict
     number: int
@@ -46,7 +46,7 @@ def numbered(value: dict, above: list[Node], count: list[int]) -> Node:
 
 
 def firsts(positions: list[int], among: list[int]) -> tuple[int, ...] | None:
-    """The first places of these positions among others, or None where one is missing."""
+    """The first places of these positions among others, or None if one is missing."""
     if any(position not in among for position in positions):
         return None
     return tuple(among.index(position) for position in positions)
@@ -111,7 +111,7 @@ def final_above(node: Node) -> bool:
 
 
 def joined(left: object, right: object, on: list, width: int) -> object | None:
-    """The locus of a join, or None where the loci don't meet."""
+    """The locus of a join, or None if the loci don't meet."""
     if left == right and left in (ENTRY, REPLICATED):
         return left
     if right == REPLICATED and left != ENTRY:
@@ -140,7 +140,7 @@ def limit_stands(node: Node, locus: object) -> bool:
 
 
 def grouped(locus: object, group: list[int]) -> object | None:
-    """The locus of groups, or None where they don't stand together."""
+    """The locus of groups, or None if they aren't together."""
     if locus == STREWN:
         return None
     return firsts(list(locus), group) if isinstance(locus, tuple) else locus
@@ -262,7 +262,7 @@ def look_join(value: dict, below: list[Seen], broken: set[int]) -> Seen | None:
 
 
 def judge(node: Node, tables: dict, document: dict, sound: dict[int, Seen]) -> None:
-    """Judges what stands below and then the node."""
+    """Judges what is below and then the node."""
     for child in node.children:
         judge(child, tables, document, sound)
     broken: set[int] = set()

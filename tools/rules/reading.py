@@ -20,7 +20,7 @@ def real(text: str) -> float:
 
 
 def whole(text: str) -> object:
-    """An integer where it has 64 bits, with or without a sign; else a float, as `-0` is."""
+    """An integer if it has 64 bits, with or without a sign; else a float, as `-0` is."""
     if len(text) < 25 and text != "-0" and -(2**63) <= int(text) < 2**64:
         return int(text)
     return real(text)

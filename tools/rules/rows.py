@@ -1,4 +1,4 @@
-"""Rows: their spelling, the segments where they stand, the chunks into which they are cut, their text (docs/FORMATS.md)."""
+"""Rows: their spelling, the segments that have them, the chunks into which they are cut, their text (docs/FORMATS.md)."""
 from __future__ import annotations
 
 import json

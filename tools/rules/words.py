@@ -8,7 +8,7 @@ GREATEST = 4294967295
 
 
 def drops_of(words: list[str]) -> list[int] | None:
-    """The sends that these words lose, or None where they are none of the command's."""
+    """The sends that these words lose, or None if they are none of the command's."""
     if words[:1] != ["sim"] or len(words) > 2:
         return None
     if len(words) == 1:
