@@ -135,7 +135,7 @@ def check_claims(check: Checks, page: Path) -> None:
     homes = [page.parent.name] if page.parent.parent == code.CRATES else list(crates())
     for number, cell in columns(text_of(page), "clause"):
         for word in ticked(cell):
-            named = any(code.is_named(word, crate) for crate in homes)
+            named = any(code.is_named(word, crate, far=word[:1].isupper()) for crate in homes)
             check(named, f"{page}:{number}", f"no {word} in the code of {homes[0] if len(homes) == 1 else 'any crate'}")
         for given, owner in re.findall(r"((?:`[^`]+`(?:, | and )?)+) of `([^`]+)`", cell):
             contracts = [code.contracts_in(crate) for crate in homes if function_of(owner) in code.contracts_in(crate)]
