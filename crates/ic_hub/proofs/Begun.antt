@@ -25,7 +25,6 @@ use Rattle.ic_conntab.specs.Ends.{sending_ends, receiving_ends, keys_of, motions
 use Rattle.ic_conntab.proofs.Named.{ends_have_their_sides}
 use Rattle.ic_timed_sender.specs.Timed.{TimedState, begun_at}
 use Rattle.ic_timed_sender.specs.Standing.{Stands as SenderStands}
-use Rattle.ic_receiver.specs.Receiving.{Receiving}
 use Rattle.ic_receiver.specs.Receiving as receiving
 use Rattle.ic_receiver.specs.Standing.{Stands as ReceiverStands}
 use Rattle.ic_sender.proofs.Passing.{clock_stays}

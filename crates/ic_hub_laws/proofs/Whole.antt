@@ -13,7 +13,7 @@ use Rattle.ic_law.specs.History.{emits, emitted_of, rows_in, rows_emitted_of, se
 use Rattle.ic_law.specs.Putting.{puts, chunks_put_of, finishes, finished_of, IsFinished}
 use Rattle.ic_law.specs.Hearing.{stopped_of, IsStopped}
 use Rattle.ic_law.specs.Filling.{sealed_of}
-use Rattle.ic_law.specs.Points.{Place, Emits, SameAgain, SentUpto, Fills, Sends, IsHere}
+use Rattle.ic_law.specs.Points.{Place, Emits, SameAgain, SentUpto, Fills, Sends}
 use Rattle.ic_law.specs.Clock.{clock_of, ticks_by}
 use Rattle.ic_law.specs.Timers.{Timing}
 use Rattle.ic_law.specs.Timing.{timing_of, settled, moved, rows_at}

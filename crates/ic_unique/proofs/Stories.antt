@@ -1,10 +1,10 @@
 -- The worked histories: each reply is computed from the entries before it.
-use Rattle.std.proofs.Common.{◌≡◌, ◌≢◌, ℕ, ◌+◌, ◌<◌, ◌≤◌, ◌^◌, List, [], ◌∷◌, ◌++◌, length, map, true, false, Ok, Err, Some, refl, ap, sym, ◌∙◌, subst, arith, append-nil, lit<, inl, inr, ◌⊎◌}
+use Rattle.std.proofs.Common.{◌≡◌, ℕ, ◌<◌, ◌≤◌, List, [], ◌∷◌, length, map, true, false, Ok, refl, ap, sym, ◌∙◌, subst, arith, append-nil, lit<, inl, inr, ◌⊎◌}
 use Rattle.std.specs.List.{Contains, flat_map}
 use Rattle.ic_base.specs.declared.keys.ConnEnd.{ConnEnd}
 use Rattle.ic_base.specs.declared.settings.Settings.{Settings}
 use Rattle.ic_base.specs.declared.datagram.Datagram.{Datagram}
-use Rattle.ic_header.specs.declared.flags.Flags.{Flags}
+use Rattle.ic_base.specs.Keys.{key_eq}
 use Rattle.ic_header.specs.declared.flags.Flags.TheVariants.{Ack, Stop, Disorder}
 use Rattle.ic_header.specs.Spelling.{written}
 use Rattle.ic_header.specs.Reading.{word_at, content_at, flags_of, header_at, len_fits, read_header}
@@ -12,7 +12,6 @@ use Rattle.ic_chunk.specs.Chunks.{spelled}
 use Rattle.ic_window.specs.Window.{times}
 use Rattle.ic_law.specs.declared.history.HubAsk.TheVariants.{Begin, Put, Finish, Arrive, Tick}
 use Rattle.ic_law.specs.declared.history.HubReply.TheVariants.{Begun, Gave, Came, Ticked}
-use Rattle.ic_law.specs.declared.history.HubNo.TheVariants.{Stopped}
 use Rattle.ic_law.specs.declared.history.Arrived.TheVariants.{Handled}
 use Rattle.ic_law.specs.declared.history.Entry.{Entry}
 use Rattle.ic_header.specs.Packets.{Packet, packet_of, row_datagram, query_datagram, answer_datagram, header_for}
@@ -20,7 +19,7 @@ use Rattle.ic_law.specs.Queries.{left_of}
 use Rattle.ic_law.specs.Filling.{sealed_of, kept_of}
 use Rattle.ic_law.specs.Hearing.{stopped_of}
 use Rattle.ic_header.specs.Packets.{listing}
-use Rattle.ic_law.specs.Sending.{Fits, IsFull, IsTooLong, IsStray}
+use Rattle.ic_law.specs.Sending.{Fits, IsFull, IsTooLong}
 use Rattle.ic_law.specs.Clock.{last_tick}
 use Rattle.ic_law.specs.Timing.{timing_of}
 use Rattle.ic_law.specs.Emitting.{rows_then}
@@ -29,10 +28,11 @@ use Rattle.ic_law.specs.Order.{Live, query_out}
 use Rattle.ic_law.specs.Numbers.{IsIncreasingFrom, last_or}
 use Rattle.ic_law.specs.Points.{IsLive}
 use Rattle.ic_law.proofs.Lists.{Contains-none, Contains-head, Contains-tail, Contains-one}
-use Rattle.ic_unique.specs.Worked.{Forces, roomy, tight, here, up, across, text, rows, last, begin, put, finish, come, tick, resent, disordered, stopped, both_due, asked}
+use Rattle.ic_unique.specs.Worked.{Forces, roomy, tight, here, up, across, text, rows, last, begin, resent, disordered, stopped, both_due, asked}
 use Rattle.ic_unique.proofs.Given.{put_entry, finish_entry, came_entry}
 use Rattle.ic_unique.proofs.Orders.{tick_entry}
-use Rattle.ic_unique.proofs.Forced.{Follows, forced, begins, Runs, puts_follow, finish_follows, put_stopped, Comes, heard_follows, ticks_follow, begun_in, live_began, lone_live}
+use Rattle.ic_unique.proofs.Forced.{Follows, forced, begins, Runs, puts_follow, finish_follows, put_stopped, Comes, heard_follows, ticks_follow, begun_in}
+use Rattle.ic_unique.proofs.Forced.{live_began, lone_live}
 
 -- ---- the query of a story
 
@@ -131,7 +131,7 @@ disorder_fine sent seq extra ns low more increase below (inr (inr (inl not_so)))
 disorder_fine sent seq extra ns low more increase below (inr (inr (inr high))) = omega (arith, below, high)
 
 pub resent_forced : Forces (here roomy) resent
-unfolding packet_of read_header header_at len_fits flags_of word_at content_at written spelled times last_tick timing_of text
+unfolding key_eq packet_of read_header header_at len_fits flags_of word_at content_at written spelled times last_tick timing_of text
 resent_forced k run same =
     forced (here roomy) k run [] k resent refl same (
       first_begins roomy (up ∷ []),
@@ -157,7 +157,7 @@ resent_forced k run same =
     )
 
 pub disordered_forced : Forces (here roomy) disordered
-unfolding packet_of read_header header_at len_fits flags_of word_at content_at written spelled times last_tick timing_of text
+unfolding key_eq packet_of read_header header_at len_fits flags_of word_at content_at written spelled times last_tick timing_of text
 disordered_forced k run same =
     forced (here roomy) k run [] k disordered refl same (
       first_begins roomy (up ∷ []),
@@ -169,7 +169,7 @@ disordered_forced k run same =
             put_more roomy (up ∷ []) up _ 99 (row_datagram up (rows 2 98) ∷ []) (record { of = up_of; none_left = refl; going = refl }) (record { few = lit< tt; small = lit< tt }) refl,
             (
               finishes roomy (up ∷ []) up _ (row_datagram up (last 3 99) ∷ []) (record { of = up_of; none_left = refl; going = refl }) (record { few = lit< tt; small = lit< tt }) refl,
-              (comes roomy (up ∷ []) up _ (answer_datagram up Disorder 3 3 (listing (1 ∷ 2 ∷ []))) (record { head = header_for up Disorder 8 3 3; body = listing (1 ∷ 2 ∷ []) }) (row_datagram up (rows 1 97) ∷ row_datagram up (rows 2 98) ∷ []) (record { of = up_of; none_left = refl; going = refl }) (record { reads = refl; back = refl; key = refl; directed = (refl, refl); fine = disorder_fine 3 3 3 (1 ∷ 2 ∷ []) (omega arith) (omega arith) (omega arith, omega arith, tt) (omega arith) }) refl, tt),
+              (comes roomy (up ∷ []) up _ (answer_datagram up Disorder 3 3 (listing (1 ∷ 2 ∷ []))) (record { head = header_for up Disorder 8 3 3; body = listing (1 ∷ 2 ∷ []) }) (row_datagram up (rows 1 97) ∷ row_datagram up (rows 2 98) ∷ []) (record { of = up_of; none_left = refl; going = refl }) (record { reads = refl; back = refl; key = refl; directed = (refl, refl); fine = disorder_fine 3 3 3 (1 ∷ 2 ∷ []) (omega arith) (omega arith) (omega arith, (omega arith, tt)) (omega arith) }) refl, tt),
             ),
           ),
         ),
@@ -177,7 +177,7 @@ disordered_forced k run same =
     )
 
 pub stopped_forced : Forces (here roomy) stopped
-unfolding packet_of read_header header_at len_fits flags_of word_at content_at written spelled times last_tick timing_of text
+unfolding key_eq packet_of read_header header_at len_fits flags_of word_at content_at written spelled times last_tick timing_of text
 stopped_forced k run same =
     forced (here roomy) k run [] k stopped refl same (
       first_begins roomy (up ∷ []),
@@ -206,7 +206,7 @@ stopped_forced k run same =
     )
 
 pub both_due_forced : Forces (here roomy) both_due
-unfolding packet_of read_header header_at len_fits flags_of word_at content_at written spelled times last_tick timing_of text
+unfolding key_eq packet_of read_header header_at len_fits flags_of word_at content_at written spelled times last_tick timing_of text
 both_due_forced k run same =
     forced (here roomy) k run [] k both_due refl same (
       first_begins roomy (up ∷ across ∷ []),
@@ -235,7 +235,7 @@ both_due_forced k run same =
     )
 
 pub asked_forced : Forces (here tight) asked
-unfolding packet_of read_header header_at len_fits flags_of word_at content_at written spelled times last_tick timing_of text
+unfolding key_eq packet_of read_header header_at len_fits flags_of word_at content_at written spelled times last_tick timing_of text
 asked_forced k run same =
     forced (here tight) k run [] k asked refl same (
       first_begins tight (up ∷ []),

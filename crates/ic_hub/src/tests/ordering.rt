@@ -53,10 +53,7 @@ fn sending(hub: &Hub, to: SegId) -> ConnEnd
 fn begin(hub: &mut Hub, alloc: Global) -> Result<(), Fail>
     requires { hub.old.at ≡ pos 0 }
 {
-    let ends = [
-        sending(hub, SegId::DISPATCHER),
-        sending(hub, segment(1)?),
-    ];
+    let ends = [sending(hub, SegId::DISPATCHER), sending(hub, segment(1)?)];
     match hub.begin(alloc, 1, &ends) {
         Ok(()) => Ok(()),
         Err(_no) => Err("not begun".into()),
