@@ -154,7 +154,7 @@ pub trait Port {
     /// The worker's calls with their replies, without those answered `Busy` or `Memory`.
     ghost log: { Self → List PortEntry };
 
-    /// At least as many as the calls answered `Busy`. It never falls, and stays at the greatest number of its type.
+    /// A count that each answer `Busy` raises. It never falls, and stays at the greatest number of its type.
     ghost busy: { Self → ℕ };
 
     /// What one call may do to the port beyond what the other ghost values say. A caller that lends its own port to
