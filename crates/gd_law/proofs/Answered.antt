@@ -30,7 +30,7 @@ use Rattle.gd_law.proofs.Readings.{puts_agree, takes_agree}
 
 -- ---- what was put
 
--- all chunks of the rows were put, and they assemble to these
+-- all chunks of the rows were put, and they assemble to these rows
 record WasPut (motion : ℕ) (to : ℤ) (packet : ℕ) (rows : List (List Value)) (log : List PortEntry) : Type 0 where
   pub chunks : sending.puts_of motion to log ≡ sending.cut packet rows
   pub assemble : Assembles (sending.puts_of motion to log) rows [] false
@@ -72,7 +72,7 @@ served session segments query settings parts nodes rows is ours least greatest p
 
 -- ---- segments
 
--- so many segments, from this one on
+-- this many segments, from this one on
 from_on : ℕ → ℕ → List ℤ
 from_on s zero = []
 from_on s (suc more) = pos s ∷ from_on (suc s) more
@@ -120,7 +120,7 @@ part_of : List (List (List Value)) → ℤ → List (List Value)
 part_of parts (pos n) = slice_index_or parts n []
 part_of parts (negsuc n) = []
 
--- all parts, one segment's behind the other's
+-- all parts, one segment's after the other's
 parts_are : (of : ℤ → List (List Value)) (s : ℕ) (parts : List (List (List Value))) → ((i : ℕ) → i < length parts → of (pos (s + i)) ≡ slice_index_or parts i [])
     → flat_map of (from_on s (length parts)) ≡ together parts
 unfolding from_on

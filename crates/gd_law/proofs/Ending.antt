@@ -23,7 +23,7 @@ use Rattle.gd_law.specs.Laws.{WholeWasFinished}
 
 -- ---- lists
 
--- where a test holds of any, it holds of one that is there
+-- if a test holds of some element, it holds of one that is there
 any_there : {A : Type 0} (f : A → Bool) (xs : List A) → list_any f xs ≡ true → (x : A) × Contains xs x × (f x ≡ true)
 any_there f [] h = let bad : false ≡ true = h in cc
 any_there {A = A} f (x ∷ xs) h = by (f x) refl (any_there f xs)
@@ -62,7 +62,7 @@ formed_there place h d law there =
     let w = Contains-flat_map emits h d there in
     (law w.0 w.1 w.2 w.3).formed d w.4
 
--- what is formed reads as its packet
+-- a formed packet is read as itself
 formed_reads : (place : Place) (d : Datagram) (f : IsFormed place d) → packet_of d ≡ Some f.packet
 unfolding packet_of
 formed_reads place d f = ap packet_read (reads_spelled f.packet.head f.packet.body d.bytes f.spelled)
@@ -88,7 +88,7 @@ came_from nodes session settings network hubs c b q came =
 
 -- ---- the last packet
 
--- it is emitted of a finished stream alone
+-- the last packet is emitted only of a finished stream
 last_is_final : (puts : List (List ℕ)) (finished : Type 0) (packets : List Sealed) → Fills puts finished packets → (x : Sealed) → Contains packets x → x.last ≡ true → finished
 last_is_final puts finished packets fills x there last =
     elim (Contains-append_cases (map plain fills.groups) (final_of fills.end) x (subst (λ l. Contains l x) fills.are there)) [
@@ -100,7 +100,7 @@ last_is_final puts finished packets fills x there last =
     by None is in_it = absurd (Contains-none x in_it)
     by (Some group) is in_it = (fills.all group is).1
 
--- one that was taken had come
+-- a packet that was taken had come
 taken_came : (place : Place) (c : ConnKey) (h : List Entry) → c.session ≡ place.session → c.to ≡ place.at → HubLaw place h → IsWhole c h
     → (q : RowPacket) × Contains (rows_arrived_of c h) q × (q.last ≡ true)
 taken_came place c h session at law whole =

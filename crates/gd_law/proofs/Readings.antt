@@ -1,4 +1,4 @@
--- What a history says of a connection is what the log of its worker says: entry by entry.
+-- The history says of a connection what the log of its worker says: entry by entry.
 use Rattle.std.proofs.Common.{◌≡◌, ℕ, zero, suc, ℤ, List, [], ◌∷◌, ◌++◌, map, Bool, true, false, ◌&&◌, ◌||◌, ◌==◌, cond, Ok, Err, refl, ap, sym, ◌∙◌, subst, inl, inr, ◌⊎◌, append_assoc, arith}
 use Rattle.std.proofs.lemmas.List.{map-append}
 use Rattle.std.proofs.lemmas.List.Concat.{flat_map-append}
@@ -98,7 +98,7 @@ one_put key c chunk (Cleared r) true = unchosen ((key.motion == c.motion) && int
 one_put key c chunk (Left r) true = unchosen ((key.motion == c.motion) && int_eq key.to c.to) chunk
 one_put key c chunk Memory true = unchosen ((key.motion == c.motion) && int_eq key.to c.to) chunk
 
--- where each entry is of its ask, and the ask puts nothing, nothing is put
+-- if each entry is of its ask, and the ask puts nothing, nothing is put
 puts_none : (motion : ℕ) (to : ℤ) (asked : PortAsk) (log : List PortEntry) → ((r : PortReply) → sending.put_by motion to asked r ≡ [])
     → AllByRecursion (λ (e : PortEntry). e.ask ≡ asked) log → sending.puts_of motion to log ≡ []
 puts_none motion to asked [] none all = refl
@@ -206,7 +206,7 @@ any_either P (y ∷ xs) ys (suc k, x, lt, is, p) =
 any_none : {X : Type 0} (P : X → Type 0) → Any P [] → ⊥
 any_none P (k, x, lt, is, p) = omega (arith, lt)
 
--- one that holds is of the ask that all are of
+-- if all entries are of one ask, and one of them is a finish, that ask is the finish
 any_asks : (motion : ℕ) (to : ℤ) (asked : PortAsk) (log : List PortEntry) → AllByRecursion (λ (e : PortEntry). e.ask ≡ asked) log
     → sending.IsFinished motion to log → asked ≡ ask.Finish motion to
 any_asks motion to asked [] all any = absurd (any_none (sending.Finishes motion to) any)
@@ -344,7 +344,7 @@ none_taken : (b : Bool) → map payload_in (cond b [] []) ≡ []
 none_taken true = refl
 none_taken false = refl
 
--- where each entry is of its ask, and the ask takes nothing, nothing is taken
+-- if each entry is of its ask, and the ask takes nothing, nothing is taken
 parcels_none : (motion : ℕ) (asked : PortAsk) (log : List PortEntry) → ((r : PortReply) → taking.parcel_by motion asked r ≡ [])
     → AllByRecursion (λ (e : PortEntry). e.ask ≡ asked) log → taking.parcels_of motion log ≡ []
 parcels_none motion asked [] none all = refl
@@ -437,7 +437,7 @@ all_takes place c (e ∷ h) ours its session at =
     ∙ sym (flat_map-append (taking.payload_in c.from) here later)
     ∙ ap (taking.payloads_from c.from) (sym (flat_map-append (taking.parcel_in c.motion) (logs c.query e) (log_of c.query h)))
 
--- ---- what the hub's law tells of it
+-- ---- what the hub's law says of it
 
 taken_from : (end : ConnEnd) (before : List Entry) (replied : HubReply) (p : Parcel) (ds : List Datagram) → AnswersTake end before replied → replied ≡ Took (Ok (p, ds)) → p.from ≡ end.key.from
 taken_from end before replied p ds (Over ended is) took = let bad : Took (Err no.Ended) ≡ Took (Ok (p, ds)) = sym is ∙ took in cc

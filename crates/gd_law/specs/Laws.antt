@@ -1,4 +1,4 @@
--- What follows for every session.
+-- Laws of every session.
 use Rattle.std.specs.Prelude.{◌≡◌, ◌↔◌, ℕ, ◌≤◌, ℤ, List}
 use Rattle.ic_base.specs.declared.keys.ConnKey.{ConnKey}
 use Rattle.ic_base.specs.declared.settings.Settings.{Settings}
@@ -18,7 +18,8 @@ use Rattle.gd_law.specs.Playing.{AreOurs, AreAllOurs, IsPlayed, AllGrowPast}
 
 -- ---- ends
 
--- where the network gives only what was emitted, and each hub keeps its law, an end of stream that was taken had been put
+-- if the network delivers only what was emitted, and each hub obeys its law, then an end of stream that was taken had
+-- been put
 abbrev pub WholeWasFinished : Type 0
 WholeWasFinished =
     (nodes : List (List Entry)) (session : ℕ) (settings : Settings)
@@ -27,7 +28,7 @@ WholeWasFinished =
 
 -- ---- readings
 
--- what a history says of a connection that is sent on from here is what the log of its worker says
+-- at a connection's sending end, the history says the same of what was put as the worker's log
 pub record SaysPut (c : ConnKey) (h : List Entry) : Type 0 where
   pub chunks : chunks_put_of c h ≡ sending.puts_of c.motion c.to (log_of c.query h)
   pub finished : IsFinished c h ↔ sending.IsFinished c.motion c.to (log_of c.query h)
@@ -37,7 +38,8 @@ PutsAgree =
     (session : ℕ) (at : ℤ) (settings : Settings) (h : List Entry) (c : ConnKey)
     → AreOurs session at settings h → c.session ≡ session → c.from ≡ at → SaysPut c h
 
--- so it is for one that ends here, where the hub keeps its law: a parcel is from the segment that it was asked of
+-- at its receiving end so does what was taken, if the hub obeys its law: a parcel is from the segment that was asked
+-- for
 abbrev pub TakesAgree : Type 0
 TakesAgree =
     (session : ℕ) (at : ℤ) (settings : Settings) (h : List Entry) (c : ConnKey)
@@ -55,7 +57,7 @@ PlayedIsAnswered =
     → IsPlayed session query settings.packet parts nodes rows
     → IsAnswered session query settings.packet parts nodes rows
 
--- and stays as it is while the workers of other queries ask
+-- and stays so while the workers of other queries make calls
 abbrev pub PlayedStays : Type 0
 PlayedStays =
     (session query packet : ℕ) (parts : List (List (List Value))) (nodes now : List (List Entry)) (rows : List (List Value))

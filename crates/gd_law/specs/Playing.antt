@@ -1,4 +1,4 @@
--- What stands of a query between its workers and the histories, at its end and behind it.
+-- How the workers of a query and the histories agree, when the query ends and afterwards.
 use Rattle.std.specs.Prelude.{◌≡◌, ◌≢◌, ℕ, ◌<◌, ℤ, pos, negsuc, List, ◌++◌, length, Some, slice_get}
 use Rattle.std.specs.List.{AllByRecursion}
 use Rattle.ic_base.specs.declared.datagram.Parcel.{Parcel}
@@ -15,11 +15,11 @@ use Rattle.gd_law.specs.Answers.{gather_key}
 
 -- ---- asks
 
--- all that workers asked at a node is of connections with their side there
+-- every call that workers made at a node is on a connection that has the call's side there
 abbrev pub AreOurs : ℕ → ℤ → Settings → List Entry → Type 0
 AreOurs session at settings h = AllByRecursion (λ e. IsOurs (place_at session at settings) e.ask) h
 
--- so it is at each node
+-- the same at each node
 abbrev pub AreAllOurs : ℕ → Settings → List (List Entry) → Type 0
 AreAllOurs session settings nodes = (segment : ℤ) → AreOurs session segment settings (history_of nodes segment)
 
@@ -33,11 +33,12 @@ pub record IsSent (query packet : ℕ) (part : List (List Value)) (h : List Entr
   pub packet_is : scanning.packet ≡ packet
   pub scans : Scans part scanning (log_of query h)
 
--- the parcel is from one of so many segments
+-- the parcel is from one of this many segments
 abbrev pub IsFromOne : ℕ → Parcel → Type 0
 IsFromOne senders p = (segment : ℕ) × (segment < senders) × (p.from ≡ pos segment)
 
--- the rows are those that the parcels taken here let out; these are of so many segments, and the end of each was taken
+-- the rows are those that the parcels taken here let out; the parcels are from this many segments, and each one's end
+-- was taken
 pub record IsTaken (session query senders : ℕ) (rows : List (List Value)) (h : List Entry) : Type 0 where
   pub lets_out : LetsOut (parcels_of 1 (log_of query h)) rows
   pub from : AllByRecursion (IsFromOne senders) (parcels_of 1 (log_of query h))
@@ -50,7 +51,7 @@ pub record IsPlayed (session query packet : ℕ) (parts : List (List (List Value
 
 -- ---- later
 
--- one history grew by entries in which no worker of this query asks
+-- the history grew by entries in which no worker of this query makes a call
 pub record GrowsPast (query : ℕ) (h now : List Entry) : Type 0 where
   pub other : ℕ
   pub differs : other ≢ query

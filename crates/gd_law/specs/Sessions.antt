@@ -1,4 +1,4 @@
--- What the histories of all nodes of a session are together.
+-- What the histories of all nodes of a session have in common.
 use Rattle.std.specs.Prelude.{◌≡◌, ℕ, ◌+◌, ℤ, List, length}
 use Rattle.ic_base.specs.declared.keys.ConnKey.{ConnKey}
 use Rattle.ic_base.specs.declared.settings.Settings.{Settings}
@@ -8,8 +8,8 @@ use Rattle.ic_law.specs.Hub.{HubLaw}
 use Rattle.ic_law.specs.Emission.{EmissionLaw}
 use Rattle.ic_law.specs.Streams.{NetworkLaw, StreamLaw, history_of}
 
--- The histories of the dispatcher and of so many segments: each datagram that came was emitted, each hub keeps the laws of
--- hubs and of emission, and each connection of the session the stream law.
+-- The histories of the dispatcher and of this many segments. Each datagram that came was emitted. Each hub obeys the
+-- hub law and the emission law, and each connection of the session obeys the stream law.
 pub record IsSession (session segments : ℕ) (settings : Settings) (nodes : List (List Entry)) : Type 0 where
   pub count : length nodes ≡ segments + 1
   pub network : NetworkLaw nodes

@@ -1,18 +1,18 @@
-// Laws of sessions and their queries, each carried by a function that has nothing to run.
+// Laws of sessions and their queries. Each is the contract of a function with an empty body.
 ghost use Rattle.gd_law.specs.Laws.{WholeWasFinished, PutsAgree, TakesAgree, PlayedIsAnswered, PlayedStays};
 
-/// Where the network gives only what was emitted, and each hub keeps its law, an end of stream that was taken had been
-/// put.
+/// If the network delivers only what was emitted, and each hub obeys its law, then an end of stream that was taken had
+/// been put.
 pub fn whole_was_finished()
     ensures { WholeWasFinished }
 {}
 
-/// What a history says of a connection that is sent on is what the log of its worker says.
+/// What the history says of a connection at its sending end agrees with the log of the worker there.
 pub fn puts_agree()
     ensures { PutsAgree }
 {}
 
-/// What a history says was taken of a connection is what the log of its worker says.
+/// What the history says was taken of a connection agrees with the log of the worker that took it.
 pub fn takes_agree()
     ensures { TakesAgree }
 {}
@@ -23,7 +23,7 @@ pub fn played_is_answered()
     ensures { PlayedIsAnswered }
 {}
 
-/// A query whose workers are done stays as it is while the workers of others ask.
+/// A query whose workers are done stays so while the workers of other queries make calls.
 pub fn played_stays()
     ensures { PlayedStays }
 {}

@@ -1,10 +1,10 @@
-//! What the nodes of a session did, taken together: when a query of its is answered, and why. Definitions and laws alone:
-//! nothing runs here, and no hub, worker or network is known.
+//! Lemmas over the histories of all nodes of a session: when they show that a query was answered, and why. Definitions
+//! and laws alone: nothing runs here, and no hub, worker or network is known.
 //!
-//! All is read from the nodes' histories. Whoever runs the nodes keeps `IsPlayed` of each query that is over, and the laws
-//! give `IsAnswered` at the end.
+//! Everything is read from the nodes' histories. A caller that runs the nodes keeps `IsPlayed` for each query that is
+//! over, and the laws give `IsAnswered` at the end.
 //!
-//! Below: `ic_law` for the law of hubs, `gd_work` for what workers do, `ic_law` for their logs. Above: whoever runs a
+//! Below: `ic_law` for the law of hubs and the logs of workers, `gd_work` for what workers do. Above: whatever runs a
 //! session.
 #![tactic(auto)]
 

@@ -1,4 +1,4 @@
--- Whether two keys name one connection.
+-- Whether two keys name the same connection.
 use Rattle.std.specs.Prelude.{Bool, ◌&&◌, ◌==◌}
 use Rattle.std.specs.Ordering.{int_eq}
 use Rattle.ic_base.specs.declared.keys.ConnKey.{ConnKey}

@@ -12,35 +12,35 @@ use Rattle.ic_base.specs.declared.port.PortEntry.{PortEntry}
 
 -- ---- connections
 
--- the worker sends on a connection of this motion to this segment
+-- the worker sends on some connection of this motion to this segment
 abbrev pub SendsTo : List ConnEnd → ℕ → ℤ → Type 0
 SendsTo keys motion to = Any (λ end. (end.sending ≡ true) × (end.key.motion ≡ motion) × (end.key.to ≡ to)) keys
 
--- the worker sends on this connection, which is of this motion and to this segment
+-- the worker sends on this connection, and it is of this motion and to this segment
 abbrev pub SendsAs : List ConnEnd → ℕ → ℤ → ConnKey → Type 0
 SendsAs keys motion to key = (key.motion ≡ motion) × (key.to ≡ to) × Any (λ end. (end.sending ≡ true) × (end.key ≡ key)) keys
 
--- the worker hears this segment on a connection of this motion
+-- the worker receives from this segment on some connection of this motion
 abbrev pub HearsFrom : List ConnEnd → ℕ → ℤ → Type 0
 HearsFrom keys motion sender = Any (λ end. (end.sending ≡ false) × (end.key.motion ≡ motion) × (end.key.from ≡ sender)) keys
 
--- the worker hears some segment on a connection of this motion
+-- the worker receives from some segment on some connection of this motion
 abbrev pub Hears : List ConnEnd → ℕ → Type 0
 Hears keys motion = Any (λ end. (end.sending ≡ false) × (end.key.motion ≡ motion)) keys
 
 -- ---- the log
 
--- the reply that the log has for the answer of a call that gives no parcel
+-- the reply in the log for a call that returned no parcel
 abbrev pub did : Result (Unit {0}) PortNo → PortReply
 did (Ok _) = Did
 did (Err refusal) = Refused refusal
 
--- the reply that the log has for the answer of a call that gives a parcel
+-- the reply in the log for a call that returned a parcel
 abbrev pub gave : Result Parcel PortNo → PortReply
 gave (Ok parcel) = Gave parcel
 gave (Err refusal) = Refused refusal
 
--- what a call adds to the log: its entry, and nothing where it was answered Busy or Memory
+-- what a call adds to the log: its entry, or nothing if the answer was Busy or Memory
 abbrev pub added : PortAsk → PortReply → List PortEntry
 added ask (Refused Busy) = []
 added ask (Refused Memory) = []
@@ -52,22 +52,22 @@ logged ask reply log = log ++ added ask reply
 
 -- ---- the count of Busy
 
--- one more, but no more than a u64 holds
+-- one more, up to the greatest u64
 abbrev pub one_more_busy : ℕ → ℕ
 one_more_busy n = min (n + 1) (2 ^ 64 - 1)
 
--- the count rose, or stands at the end of its type
+-- the count rose by at least one, or is the greatest u64
 abbrev pub BusyRose : ℕ → ℕ → Type 0
 BusyRose before now = one_more_busy before ≤ now
 
--- the count never falls, and the reply is Busy only where it rose
+-- the count never falls, and if the reply is Busy, it rose
 pub record CountsBusy (before now : ℕ) (reply : PortReply) : Type 0 where
   pub later : before ≤ now
   pub rose : reply ≡ Refused Busy → BusyRose before now
 
 -- ---- refusals
 
--- why a put or a finish on this motion to this segment may be refused; a key that it names is that of its connection
+-- why a put or a finish on this motion to this segment may be refused; a key in it is the connection's
 abbrev pub MayRefusePut : List ConnEnd → ℕ → ℤ → PortNo → Type 0
 MayRefusePut keys motion to Full = Unit {0}
 MayRefusePut keys motion to Empty = ⊥

@@ -15,7 +15,7 @@ is_within least n greatest = nat_le least n && nat_le n greatest
 abbrev pub refused : Field → Result Settings OutOfRange
 refused field = Err (record { field = field })
 
--- the settings, or the first field outside its range
+-- the settings, or the first field that is out of its range
 abbrev pub checked : Settings → Result Settings OutOfRange
 checked s =
     if is_within 128 s.packet 65507 then

@@ -5,7 +5,7 @@ use std::alloc::{AllocError, Global};
 use std::marker::Model;
 use std::sync::Arc;
 
-/// Bytes that never change, seen as a list. A copy shares the buffer: it copies no byte, and takes no memory.
+/// Bytes that never change, seen as a list. Another owner shares the buffer: no byte is copied, no memory is taken.
 #[derive(Drop)]
 pub struct Bytes {
     items: Arc<Vec<u8>>,
@@ -21,7 +21,7 @@ impl Model for Bytes {
 }
 
 impl Bytes {
-    /// Moves the bytes behind a counter of their owners. Takes memory for the counter alone.
+    /// Shares these bytes. Allocates a count of owners, and copies no byte. Fails only if out of memory.
     pub fn from_vec(alloc: Global, items: Vec<u8>) -> Result<Bytes, AllocError>
         ensures { IfOk result (λ b. b ≡ items.items) }
     {
@@ -30,7 +30,7 @@ impl Bytes {
         })
     }
 
-    /// Copies the bytes once.
+    /// Allocates a buffer and copies the bytes once. Fails only if out of memory.
     pub fn from_slice(alloc: Global, bytes: &[u8]) -> Result<Bytes, AllocError>
         ensures { IfOk result (λ b. b ≡ bytes.now) }
     {
@@ -55,7 +55,7 @@ impl Bytes {
         self.as_slice().is_empty()
     }
 
-    /// Another owner of the same buffer. Fails only where the count of owners is full.
+    /// Another owner of the same buffer. Takes no memory. Fails only if the count of owners is full.
     pub fn share(&self) -> Result<Bytes, AllocError>
         ensures { IfOk result (λ b. b ≡ self.now) }
     {

@@ -1,4 +1,4 @@
-// What travels, and what is taken of it.
+// Datagrams, and what a receiver takes of them.
 ghost use Rattle.std.specs.Prelude.{◌≡◌, ℕ, List, [], ◌∷◌, ◌++◌, IfOk, OnOk, OnErr};
 
 use crate::bytes::Bytes;
@@ -6,17 +6,17 @@ use crate::keys::SegId;
 use std::alloc::{AllocError, Global};
 use std::marker::Model;
 
-/// A datagram: the two segments between which it travels and its bytes, which are a packet header and a body.
+/// A datagram: the two segments between which it travels, and its bytes, which are a packet header and a body.
 #[derive(Drop)]
 pub struct Datagram {
-    /// The end that emits it.
+    /// The segment that emits it.
     pub from: SegId,
     pub to: SegId,
     pub bytes: Bytes,
 }
 
 impl Datagram {
-    /// Another owner of the same bytes. Fails only where the count of owners is full.
+    /// Another owner of the same bytes. Takes no memory. Fails only if the count of owners is full.
     pub fn share(&self) -> Result<Datagram, AllocError>
         ensures { IfOk result (λ d. d ≡ self.now) }
     {
@@ -53,7 +53,7 @@ impl Datagrams {
         }
     }
 
-    /// One datagram, in room for no more.
+    /// One datagram, in a vector with room for exactly one. Fails only if out of memory.
     pub fn one(alloc: Global, datagram: Datagram) -> Result<Datagrams, AllocError>
         ensures { IfOk result (λ d. d ≡ datagram ∷ []) }
     {
@@ -62,14 +62,14 @@ impl Datagrams {
         Ok(Datagrams { items })
     }
 
-    /// Takes no memory.
+    /// Takes no memory, and moves no datagram.
     pub fn from_vec(items: Vec<Datagram>) -> Datagrams
         ensures { result ≡ items.items }
     {
         Datagrams { items }
     }
 
-    /// Takes no memory.
+    /// Takes no memory, and moves no datagram.
     pub fn into_vec(self) -> Vec<Datagram>
         ensures { result.items ≡ self }
     {
@@ -82,7 +82,7 @@ impl Datagrams {
         self.items.as_slice()
     }
 
-    /// Adds a datagram at the end.
+    /// Adds a datagram at the end. Fails only if out of memory; then the datagram is dropped.
     pub fn push(&mut self, datagram: Datagram) -> Result<(), AllocError>
         ensures ok { OnOk result (self.new ≡ self.old ++ datagram ∷ []) }
         ensures err { OnErr result (self.new ≡ self.old) }
@@ -96,8 +96,8 @@ impl Datagrams {
 #[derive(Drop)]
 pub struct Parcel {
     pub from: SegId,
-    /// Tuple chunks.
+    /// The body's bytes: tuple chunks.
     pub payload: Bytes,
-    /// Whether the packet was flagged as the last one of its stream.
+    /// Whether this packet is the last one of its stream.
     pub last: bool,
 }

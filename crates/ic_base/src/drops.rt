@@ -1,10 +1,10 @@
-// The sends that a network loses.
+// Which sends a network loses.
 ghost use Rattle.std.specs.Prelude.{◌≡◌, ℕ, List, [], ◌∷◌, ◌++◌, OnOk, OnErr};
 
 use std::alloc::{AllocError, Global};
 use std::marker::Model;
 
-/// Numbers of sends that are lost, from 1, seen as a list.
+/// The sends that are lost, by their numbers, counted from 1. Seen as a list.
 #[derive(Drop, Debug)]
 pub struct Drops {
     items: Vec<u32>,
@@ -19,7 +19,7 @@ impl Model for Drops {
 }
 
 impl Drops {
-    /// No sends.
+    /// No send is lost. Takes no memory.
     pub fn new(alloc: Global) -> Drops
         ensures { result ≡ [] }
     {
@@ -40,7 +40,7 @@ impl Drops {
         self.items.as_slice()
     }
 
-    /// Adds a number at the end.
+    /// Adds a number at the end. Fails only if out of memory.
     pub fn push(&mut self, number: u32) -> Result<(), AllocError>
         ensures ok { OnOk result (self.new ≡ self.old ++ number ∷ []) }
         ensures err { OnErr result (self.new ≡ self.old) }

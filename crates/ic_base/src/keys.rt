@@ -3,7 +3,7 @@ ghost use Rattle.std.specs.Prelude.{◌≡◌, ℤ, List, pos, negsuc, ◌≤ℤ
 
 use std::marker::Model;
 
-/// A segment, -1..=63, seen as its number. -1 is the dispatcher.
+/// A segment, by its number from -1 to 63, and seen as that number. -1 is the dispatcher.
 #[derive(Clone, Copy, Debug, PartialEq, Eq, PartialOrd, Ord, Hash)]
 pub struct SegId {
     number: i8,
@@ -25,7 +25,7 @@ impl SegId {
     /// The dispatcher.
     pub const DISPATCHER: SegId = SegId { number: -1 };
 
-    /// The segment of this number, and `None` exactly where it is outside -1..=63.
+    /// The segment with this number, or `None` if the number is outside -1..=63.
     pub fn new(n: i32) -> Option<SegId>
         ensures valid { IsSome result ↔ ((negsuc 0 ≤ℤ n) × (n ≤ℤ pos 63)) }
         ensures value { IfSome result (λ s. s ≡ n) }
@@ -37,7 +37,7 @@ impl SegId {
         }
     }
 
-    /// -1..=63.
+    /// The number, -1..=63.
     pub fn number(&self) -> i32
         ensures value { result ≡ self.now }
         ensures least { negsuc 0 ≤ℤ result }
@@ -47,8 +47,8 @@ impl SegId {
     }
 }
 
-/// A connection: one sender, one receiver and one motion of one query. TCP's connection, QUIC's stream,
-/// Greenplum's motion connection. `from` is the end that sends the rows, whichever way a packet travels.
+/// The name of a connection: one sender, one receiver and one motion of one query. TCP calls it a connection, QUIC a
+/// stream, Greenplum a motion connection. `from` is the segment that sends the rows, whichever way a packet travels.
 #[derive(Clone, Copy, Debug, PartialEq, Eq, PartialOrd, Ord, Hash)]
 pub struct ConnKey {
     pub session: u32,
@@ -58,7 +58,7 @@ pub struct ConnKey {
     pub to: SegId,
 }
 
-/// One end of a connection at a segment, with the numbers of the slices between which the rows go.
+/// One of a connection's two ends, with the numbers of the slices between which the rows go.
 #[derive(Clone, Copy, Debug, PartialEq, Eq)]
 pub struct ConnEnd {
     pub key: ConnKey,
@@ -68,7 +68,7 @@ pub struct ConnEnd {
     pub recv_slice: u32,
 }
 
-/// Ends of connections, seen as a list.
+/// Connection ends, seen as a list.
 #[derive(Drop, Debug)]
 pub struct ConnEnds {
     items: Vec<ConnEnd>,
@@ -127,12 +127,12 @@ impl Segs {
     }
 }
 
-/// A query isn't begun.
+/// Why a query wasn't begun. The first two are the caller's doing.
 #[derive(Clone, Copy, Debug, PartialEq, Eq)]
 pub enum BeginNo {
-    /// Its number is at most the greatest that has ended, which is this one.
+    /// The query's number isn't above the greatest that has ended, which is this one.
     Old(u32),
-    /// It is live.
+    /// A query of this number is live already.
     Twice,
     Memory,
 }

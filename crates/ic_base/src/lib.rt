@@ -1,6 +1,6 @@
 //! Names, settings, datagrams, bytes and texts that every layer shares. No codec, no connection and no clock.
 //!
-//! Each type here is a small one over a `Vec`, a `String` or a number, and contracts see it as a list or a number.
+//! Each type here is small: a `Vec`, a `String` or a number inside, and contracts see it as a list or a number.
 //! Above: every other crate of the workspace.
 #![tactic(auto)]
 

@@ -1,4 +1,4 @@
-// How one slice worker speaks to the hub of its segment.
+// How a worker of one slice calls the hub of its segment.
 ghost use Rattle.std.specs.Prelude.{◌≡◌, ℕ, List, [], ◌∷◌, ◌++◌, IfOk, IfErr, OnOk, OnErr};
 ghost use Rattle.ic_base.specs.declared.keys.ConnEnd.{ConnEnd};
 ghost use Rattle.ic_base.specs.declared.port.PortNo.TheVariants.{Memory};
@@ -12,23 +12,22 @@ use crate::keys::{ConnKey, SegId};
 use std::alloc::{AllocError, Global};
 use std::marker::Model;
 
-/// Why a call of a worker is refused.
+/// Why a worker's call is refused. Each variant says whose doing it is.
 #[derive(Clone, Copy, Debug, PartialEq, Eq)]
 pub enum PortNo {
-    /// The peer's or the network's: the sender keeps as many packets as it has room for, since they aren't
-    /// acknowledged yet. Ask again later.
+    /// The peer or the network: the sender has no room for another unacknowledged packet. Ask again later.
     Full,
-    /// The peer's or the network's: the next packet isn't there. Ask again later.
+    /// The peer or the network: the next packet hasn't come. Ask again later.
     Empty,
-    /// The peer's: the receiver wants no more.
+    /// The peer: the receiver wants no more.
     Stopped,
-    /// The peer's, or the worker's own by a halt: nothing more is to be taken.
+    /// The peer, or the worker itself by a halt: there is nothing more to take.
     Ended,
-    /// The worker's: it put so much on this connection that the numbers of packets are used up.
+    /// The worker: it put so much on this connection that the packet numbers are used up.
     TooLong(ConnKey),
-    /// Another worker's: it is being served just now. The call did nothing.
+    /// Another worker: the hub is serving it just now. The call did nothing. Ask again later.
     Busy,
-    /// Nobody's: want of memory. The call did nothing.
+    /// Nobody: out of memory. The call did nothing.
     Memory,
 }
 
@@ -40,42 +39,42 @@ impl From<AllocError> for PortNo {
     }
 }
 
-/// One call of a worker.
+/// One call of a worker. Each names a connection by its motion and the segment at its other end.
 #[derive(Drop)]
 pub enum PortAsk {
-    /// A tuple chunk is put on the connection of a motion to a segment.
+    /// Put a tuple chunk on the connection.
     Put {
         motion: u32,
         to: SegId,
         chunk: Bytes,
     },
-    /// The end of stream is put there.
+    /// Put the end of stream on the connection.
     Finish {
         motion: u32,
         to: SegId,
     },
-    /// The next parcel of any sender of a motion is taken.
+    /// Take the next parcel from any sender of the motion.
     Take {
         motion: u32,
     },
-    /// The next parcel of one sender is taken.
+    /// Take the next parcel from one sender.
     TakeFrom {
         motion: u32,
         sender: SegId,
     },
-    /// No more of one sender is wanted.
+    /// Want no more from one sender.
     Halt {
         motion: u32,
         sender: SegId,
     },
 }
 
-/// The answer of a call.
+/// The answer to a call.
 #[derive(Drop)]
 pub enum PortReply {
     /// A put, a finish or a halt was done.
     Did,
-    /// A take gave this.
+    /// A take got this parcel.
     Gave(Parcel),
     Refused(PortNo),
 }
@@ -87,7 +86,7 @@ pub struct PortEntry {
     pub reply: PortReply,
 }
 
-/// The entries of one worker, oldest first, seen as a list.
+/// The calls of one worker with their replies, oldest first, seen as a list.
 #[derive(Drop)]
 pub struct PortEntries {
     items: Vec<PortEntry>,
@@ -112,14 +111,14 @@ impl PortEntries {
         }
     }
 
-    /// Takes no memory.
+    /// Takes no memory, and moves no entry.
     pub fn from_vec(items: Vec<PortEntry>) -> PortEntries
         ensures { result ≡ items.items }
     {
         PortEntries { items }
     }
 
-    /// Takes no memory.
+    /// Takes no memory, and moves no entry.
     pub fn into_vec(self) -> Vec<PortEntry>
         ensures { result.items ≡ self }
     {
@@ -132,7 +131,7 @@ impl PortEntries {
         self.items.as_slice()
     }
 
-    /// Adds an entry at the end.
+    /// Adds an entry at the end. Fails only if out of memory; then the entry is dropped.
     pub fn push(&mut self, entry: PortEntry) -> Result<(), AllocError>
         ensures ok { OnOk result (self.new ≡ self.old ++ entry ∷ []) }
         ensures err { OnErr result (self.new ≡ self.old) }
@@ -142,24 +141,24 @@ impl PortEntries {
     }
 }
 
-/// What one slice worker asks of its hub. It names connections by motion and segment alone: its own segment, session
-/// and query are the port's.
+/// What a worker of one slice asks of its hub. It names connections by motion and segment alone; its own segment, its
+/// session and its query belong to the port.
 ///
-/// `put` and `finish` send, `take`, `take_from` and `halt` receive. No call waits; where one is answered `Full`, `Empty`
-/// or `Busy`, the worker does something else and asks again. The hub allows fewer calls than the conditions here: it
-/// takes one tuple chunk that fits in a packet, and nothing behind the end of stream. Others may be answered `Memory`.
+/// `put` and `finish` send. `take`, `take_from` and `halt` receive. No call waits: if the answer is `Full`, `Empty` or
+/// `Busy`, the worker does something else and asks again. A hub takes less than the conditions here allow: one tuple
+/// chunk that fits in a packet, and nothing after the end of stream. It may answer anything else with `Memory`.
 pub trait Port {
-    /// The connections of this worker's slice at this segment, each with its side. They never change.
+    /// The ends of this worker's slice at this segment. They never change.
     ghost keys: { Self → List ConnEnd };
 
-    /// Its calls with their replies, but those that were answered `Busy` or `Memory`.
+    /// The worker's calls with their replies, without those answered `Busy` or `Memory`.
     ghost log: { Self → List PortEntry };
 
-    /// How often it was answered `Busy`, or oftener. It never falls, and stands still at its type's end.
+    /// A count that each answer `Busy` raises. It never falls, and stays at the greatest number of its type.
     ghost busy: { Self → ℕ };
 
-    /// What one call may make of the port, beyond what the other meanings say. Whoever lends a port of its own type to a
-    /// worker over any port learns from it what a turn did to the rest.
+    /// What one call may do to the port beyond what the other ghost values say. A caller that lends its own port to
+    /// code over any port learns from this what the code did to the rest.
     ghost steps: { Self → Self → Type 0 };
 
     /// Puts a tuple chunk on the connection of this motion to this segment.
@@ -180,7 +179,7 @@ pub trait Port {
         ensures busy { CountsBusy (busy self.old) (busy self.new) (did result) }
         ensures refusals { IfErr result (MayRefusePut (keys self.old) motion to) };
 
-    /// Takes the next parcel of any sender of this motion.
+    /// Takes the next parcel from any sender of this motion.
     fn take(&mut self, alloc: Global, motion: u32) -> Result<Parcel, PortNo>
         requires { Hears (keys self.old) motion }
         ensures keys { keys self.new ≡ keys self.old }
@@ -190,7 +189,7 @@ pub trait Port {
         ensures refusals { IfErr result MayRefuseTake }
         ensures from { IfOk result (λ parcel. HearsFrom (keys self.old) motion parcel.from) };
 
-    /// Takes the next parcel of this sender.
+    /// Takes the next parcel from this sender.
     fn take_from(&mut self, alloc: Global, motion: u32, sender: SegId) -> Result<Parcel, PortNo>
         requires { HearsFrom (keys self.old) motion sender }
         ensures keys { keys self.new ≡ keys self.old }
@@ -200,7 +199,7 @@ pub trait Port {
         ensures refusals { IfErr result MayRefuseTake }
         ensures from { IfOk result (λ parcel. parcel.from ≡ sender) };
 
-    /// Says that no more of this sender is wanted.
+    /// Says that no more from this sender is wanted.
     fn halt(&mut self, alloc: Global, motion: u32, sender: SegId) -> Result<(), PortNo>
         requires { HearsFrom (keys self.old) motion sender }
         ensures keys { keys self.new ≡ keys self.old }

@@ -2,31 +2,31 @@
 ghost use Rattle.std.specs.Prelude.{◌≡◌};
 ghost use Rattle.ic_base.specs.Settings.{checked, default_settings};
 
-/// What limits how many packets a sender has on their way.
+/// What limits how many unacknowledged packets a sender may have in the network.
 #[derive(Clone, Copy, Debug, PartialEq, Eq)]
 pub enum Flow {
-    /// The receiver's room, and a window that a loss shrinks.
+    /// The receiver's free room, and a congestion window that shrinks at a loss.
     Loss,
-    /// The receiver's room alone.
+    /// The receiver's free room alone: no congestion control.
     Capacity,
 }
 
 /// The settings of a query's connections.
 #[derive(Clone, Copy, Debug, PartialEq, Eq)]
 pub struct Settings {
-    /// The greatest length of a packet in bytes, with its header of 64 bytes: 128..=65507, which is what fits in a
-    /// UDP datagram over IPv4.
+    /// The greatest length of a packet in bytes, with its header of 64 bytes: 128..=65507. The upper limit is what fits
+    /// in a UDP datagram over IPv4.
     pub packet: u32,
-    /// Packets that a receiver keeps: 1..=256.
+    /// How many packets a receiver keeps: 1..=256.
     pub receive_depth: u32,
-    /// Packets that a sender keeps: 1..=256.
+    /// How many packets a sender keeps: 1..=256.
     pub send_depth: u32,
-    /// Resendings of a packet before it is given up: 1..=1000.
+    /// How often a packet is resent before the sender gives up: 1..=1000.
     pub retries: u32,
     pub flow: Flow,
 }
 
-/// A field of `Settings` that has a range.
+/// A setting that has a range.
 #[derive(Clone, Copy, Debug, PartialEq, Eq)]
 pub enum Field {
     Packet,
@@ -35,14 +35,14 @@ pub enum Field {
     Retries,
 }
 
-/// Settings aren't allowed: this is the first field, in the order of `Settings`, outside its range.
+/// A setting is out of its range: the first one, in the order of the fields of `Settings`. The caller's doing.
 #[derive(Clone, Copy, Debug, PartialEq, Eq)]
 pub struct OutOfRange {
     pub field: Field,
 }
 
 impl Settings {
-    /// Packets of 8192 bytes, 4 of them kept by a receiver and 2 by a sender, 20 resendings, and a window.
+    /// Packets of 8192 bytes, receive depth 4, send depth 2, at most 20 resendings, and a congestion window.
     pub const DEFAULT: Settings = Settings {
         packet: 8192,
         receive_depth: 4,
@@ -51,7 +51,7 @@ impl Settings {
         flow: Flow::Loss,
     };
 
-    /// The settings, where each field is in its range.
+    /// Gives the settings back if each field is in its range.
     pub fn checked(self) -> Result<Settings, OutOfRange>
         ensures { result ≡ checked self }
     {

@@ -1,4 +1,4 @@
-// What no clause says: that memory serves.
+// What no clause says: that the calls which allocate succeed when there is memory.
 use super::*;
 use std::test::Fail;
 

@@ -39,14 +39,14 @@ impl Text {
         self.text.as_str()
     }
 
-    /// Its length in bytes.
+    /// The length in bytes.
     pub fn len(&self) -> usize
         ensures { result ≡ length self.now }
     {
         self.text.len()
     }
 
-    /// The same text again, in memory of its own.
+    /// A copy of the text in memory of its own. Copies the bytes once.
     pub fn copy(&self, alloc: Global) -> Result<Text, AllocError>
         ensures { IfOk result (λ t. t ≡ self.now) }
     {

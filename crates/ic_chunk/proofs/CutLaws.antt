@@ -1,4 +1,4 @@
--- What rows are cut into assembles to these rows.
+-- The chunks into which rows are cut assemble to these rows.
 use Rattle.std.proofs.Common.{◌≡◌, ℕ, zero, suc, ◌<◌, ◌≤◌, ◌^◌, List, [], ◌∷◌, ◌++◌, length, take, drop, map, true, nat_lt, refl, ap, sym, ◌∙◌, subst, inl, inr, arith, append-nil, length-take, length-drop}
 use Rattle.std.specs.List.{AllByRecursion, AllZip, flat_map}
 use Rattle.std.proofs.lemmas.Bool.{cases_lt}

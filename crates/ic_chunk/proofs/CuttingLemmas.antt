@@ -38,7 +38,7 @@ bodies_of-nil room some = ap (λ n. pieces room n []) (count_of-nil room some)
 pub bodies_of-more : (room : ℕ) (bytes : List ℕ) → 0 < room → 0 < length bytes → bodies_of room bytes ≡ take room bytes ∷ bodies_of room (drop room bytes)
 bodies_of-more room bytes some filled = ap (λ n. pieces room n bytes) (count_of-suc room bytes some filled)
 
--- one chunk of what is left: kinds at a row's front and behind it
+-- one chunk of what is left: its kind at the row's front, and after it
 record Steps (room : ℕ) (bytes : List ℕ) (size : ℕ) : Type 0 where
   pub tail : tail_of (bodies_of room bytes) ≡ record { kind = kind_of false (size == length bytes); body = take size bytes } ∷ tail_of (bodies_of room (drop size bytes))
   pub group : group_of (bodies_of room bytes) ≡ record { kind = kind_of true (size == length bytes); body = take size bytes } ∷ tail_of (bodies_of room (drop size bytes))

@@ -34,7 +34,7 @@ ends_by-kind End = refl
 ends_by-kind EndOfStream = refl
 ends_by-kind Empty = refl
 
--- the front of bytes, where they are as long as it says
+-- the chunk at the front of the bytes, if they are as long as its head says
 fronted : (bytes : List ℕ) (size number : ℕ) → 4 ≤ length bytes → from_be_bytes w16 (take 2 bytes) ≡ size → from_be_bytes w16 (take 2 (drop 2 bytes)) ≡ number
     → size ≤ length (drop 4 bytes) → front_at bytes ≡ Some (number, drop size (drop 4 bytes))
 unfolding front_at
@@ -59,7 +59,7 @@ front-nil = refl
 
 -- ---- one payload, chunk by chunk
 
--- of these chunks some are left, and so many rows ended before them
+-- some of these chunks are left, and this many rows ended before them
 pub record IsLeft (chunks : List Chunk) (rest : List ℕ) (count : ℕ) : Type 0 where
   pub left : List Chunk
   pub each : AllByRecursion IsChunk left
@@ -193,11 +193,11 @@ ends_by-small n = by (eqb n 0) (eqb n 3)
 
 -- ---- counts of 64 bits
 
--- of no payloads
+-- the count of no payloads
 pub counted_none : HasCounted [] 0
 counted_none = record { ended = 0; have = have_none; told = omega arith }
 
--- of one payload more
+-- the count after one more payload
 pub counted_more : (payloads : List (List ℕ)) (payload : List ℕ) (count more : ℕ) → HasEnded payload more → HasCounted payloads count → HasCounted (payloads ++ payload ∷ []) (min greatest_count (count + more))
 counted_more payloads payload count more one x =
     record {

@@ -1,4 +1,4 @@
--- A payload goes on with those before it, or its first chunk that doesn't is known.
+-- Either a payload continues those before it, or its first chunk that can't come next is known.
 use Rattle.std.proofs.Common.{◌≡◌, ◌≢◌, ℕ, List, [], ◌∷◌, ◌++◌, length, map, Bool, Some, None, refl, ap, sym, ◌∙◌, subst, append_assoc, append-nil}
 use Rattle.std.proofs.lemmas.List.{map-append}
 use Rattle.std.proofs.lemmas.List.Concat.{flat_map-append}
@@ -18,7 +18,7 @@ use Rattle.ic_chunk.proofs.Parsing.{not_nil, front-chunks, begins, follows}
 abbrev standing : List ℕ → Bool → Standing
 standing rest ended = record { rest = rest; ended = ended }
 
--- ---- the payload goes on
+-- ---- the payload continues them
 
 pub fed : (before : List (List ℕ)) (rows : List (List Value)) (rest : List ℕ) (ended : Bool) (done : List Chunk) (all : Step) → Assembles before rows rest ended → AllByRecursion IsRead done → IsBytes rest
     → run (record { rest = rest; ended = ended }) done ≡ Some all → Assembles (before ++ payload_of done ∷ []) (rows ++ all.0) all.1.rest all.1.ended
@@ -31,7 +31,7 @@ fed before rows rest ended done all a each fits e =
 
 -- ---- it doesn't
 
--- what a stream's chunks do behind the first of them
+-- what the chunks of a stream do after its first chunks
 record Last (before : List (List ℕ)) (p : List ℕ) (rest : List ℕ) (ended : Bool) : Type 0 where
   pub chunks : List Chunk
   pub each : AllByRecursion IsChunk chunks
@@ -62,7 +62,7 @@ last_of before rows rest ended p a s =
           goes = ap (λ (x : Step). run x.1 cs) (sym there) ∙ h.then;
         }
 
--- no chunk at the front of what is left goes on
+-- no chunk at the front of what is left can come next
 pub stuck : (before : List (List ℕ)) (rows : List (List Value)) (rest : List ℕ) (ended : Bool) (done : List Chunk) (all : Step) (left p front after : List ℕ) → Assembles before rows rest ended
     → AllByRecursion IsChunk done → run (record { rest = rest; ended = ended }) done ≡ Some all → IsStuck all.1 (chunk_at left) → p ≡ payload_of done ++ front → front ≢ [] → left ≡ front ++ after → IsStream (before ++ p ∷ []) → ⊥
 stuck before rows rest ended done all left p front after a each e stays are some left_is s =

@@ -9,7 +9,7 @@ use Rattle.ic_chunk.specs.Laws.{FrontAssembles}
 use Rattle.ic_chunk.proofs.Lists.{all_front, together-append}
 use Rattle.ic_chunk.proofs.Growing.{without_empty-append}
 
--- ---- the front of a row is what has begun of it
+-- ---- the front of a row is an unfinished row
 
 middles_front : (us : List Chunk) (x : Chunk) (more : List Chunk) → IsTail (us ++ x ∷ more) → AreMiddles us
 middles_front [] x more h = tt
@@ -31,7 +31,7 @@ pending_front (u ∷ us) vs h = (h.0, middles_cut us vs h.1)
 
 -- ---- where a list is cut
 
--- a cut comes behind a first piece, or inside it
+-- a cut comes after a first piece, or inside it
 inside : (us vs group more : List Chunk) → us ++ vs ≡ group ++ more → ((w : List Chunk) × (us ≡ group ++ w) × (w ++ vs ≡ more)) ⊎ ((x : Chunk) × (w : List Chunk) × (group ≡ us ++ x ∷ w))
 inside us vs [] more h = inl (us, refl, h)
 inside [] vs (g ∷ group) more h = inr (g, group, refl)
@@ -61,7 +61,7 @@ before_last (x ∷ xs) ys (p ∷ parts) e h =
       | inr w ↦ inr (w.0, ap (λ c. c ∷ parts) (sym first) ∙ ap (λ l. x ∷ l) w.1)
     ]
 
--- whole groups and what has begun, cut
+-- whole groups and an unfinished row, cut
 record Cut (us : List Chunk) (groups : List (List Chunk)) (rows : List (List Value)) : Type 0 where
   pub front : List (List Chunk)
   pub pending : List Chunk
@@ -161,7 +161,7 @@ front_assembles payloads more rows rest ended a =
     let f = first_of (together w.0) (together w.1) rows rest ended (subst (λ (l : List Chunk). IsFront l rows rest ended) chunks a.front) in
     (f.first, f.others, f.rest, f.ended, record { chunks = w.0; are = w.3; front = f.front }, f.rows_are)
 
--- what is no front of a stream is none with more payloads
+-- what is no front of a stream isn't one with more payloads either
 pub stream_front : (payloads more : List (List ℕ)) → IsStream (payloads ++ more) → IsStream payloads
 stream_front payloads more s =
     let w = front_assembles payloads more s.rows s.rest s.ended s.assemble in

@@ -1,4 +1,4 @@
--- Payloads assemble in one way at most.
+-- Payloads assemble in at most one way.
 use Rattle.std.proofs.Common.{◌≡◌, ap, sym, ◌∙◌}
 use Rattle.ic_chunk.specs.Reading.{Step, run, fresh}
 use Rattle.ic_chunk.specs.Assembly.{together}

@@ -1,4 +1,4 @@
--- Payloads are chunks in one way at most.
+-- Payloads are chunks in at most one way.
 use Rattle.std.proofs.Common.{◌≡◌, ℕ, List, [], ◌∷◌, ◌++◌, length, map, Bool, true, false, Some, refl, ap, sym, ◌∙◌, subst, arith, append_assoc, append-nil, length-append}
 use Rattle.std.specs.List.{AllByRecursion}
 use Rattle.ic_row.specs.declared.value.Value.{Value}

@@ -1,4 +1,4 @@
--- A chunk that is read is the chunk that was written, and what was written is read again.
+-- A written chunk is read back, and a chunk that is read has these bytes.
 use Rattle.std.proofs.Common.{◌≡◌, ℕ, zero, suc, ◌+◌, ◌<◌, ◌≤◌, ◌^◌, List, [], ◌∷◌, ◌++◌, length, take, drop, Bool, true, false, cond, ltb, ◌==◌, eqb-true, Option, Some, None, refl, ap, sym, ◌∙◌, inl, inr, ◌⊎◌, arith, length-append, length-take, length-drop}
 use Rattle.std.specs.Option.{option_and_then}
 use Rattle.std.specs.Int.{w16, to_be_bytes, from_be_bytes}
@@ -100,7 +100,7 @@ body_again kind body more allowed =
     ∙ ap (λ l. Some (record { kind = kind; body = l }, drop (length body) all)) (take_at body more (length body) refl)
     ∙ ap (λ l. Some (record { kind = kind; body = body }, l)) (drop_at body more (length body) refl)
 
--- the tests of reading, where each is passed
+-- the tests of reading, if all are passed
 passed : (bytes : List ℕ) (size number : ℕ) (kind : ChunkKind) (found : Chunk × List ℕ) → 4 ≤ length bytes → from_be_bytes w16 (take 2 bytes) ≡ size → from_be_bytes w16 (take 2 (drop 2 bytes)) ≡ number
     → kind_at number ≡ Some kind → body_at size (drop 4 bytes) kind ≡ Some found → chunk_at bytes ≡ Some found
 unfolding chunk_at
@@ -111,7 +111,7 @@ passed bytes size number kind found long size_is number_is kind_is body_is =
     ∙ ap (λ o. option_and_then f o) (ap kind_at number_is ∙ kind_is)
     ∙ ap (λ n. body_at n (drop 4 bytes) kind) size_is ∙ body_is
 
--- what was written is read again, whatever stands behind it
+-- what was written is read back, whatever bytes follow
 pub chunk_at-spelled : (c : Chunk) (more : List ℕ) → IsChunk c → chunk_at (spelled c ++ more) ≡ Some (c, more)
 unfolding spelled
 chunk_at-spelled c more h =
@@ -121,7 +121,7 @@ chunk_at-spelled c more h =
     (kind_again c.kind)
     (body_again c.kind c.body more h.allowed)
 
--- what is read is what stands at the front
+-- what is read is spelled at the front of the bytes
 pub record Takes (bytes : List ℕ) (c : Chunk) (more : List ℕ) : Type 0 where
   pub is_chunk : IsChunk c
   pub are : bytes ≡ spelled c ++ more

@@ -1,4 +1,4 @@
--- A chunk is taken or refused as the stream goes on.
+-- A chunk is taken or refused as the definition of the stream says.
 use Rattle.std.proofs.Common.{◌≡◌, ◌≢◌, ℕ, suc, ◌+◌, ◌++◌, append_assoc, append-nil, length-append, ◌≤◌, ◌<◌, List, [], ◌∷◌, length, drop, Bool, true, false, cond, ◌==◌, eq-eqb, Option, Some, None, refl, ap, sym, ◌∙◌, subst, inl, inr, arith, length-drop}
 use Rattle.std.proofs.lemmas.Bool.{cases_lt}
 use Rattle.std.proofs.lemmas.Bool.Decides.{nat_tests}
@@ -18,7 +18,7 @@ is_nil-from : (bytes : List ℕ) → 0 < length bytes → is_nil bytes ≡ false
 is_nil-from [] some = absurd (omega arith)
 is_nil-from (b ∷ bytes) some = refl
 
--- nothing of a row has begun exactly where it begins at the end
+-- no row is unfinished exactly if the unfinished row begins at the end of the bytes
 pub is_nil-drop : (from : ℕ) (bytes : List ℕ) → from ≤ length bytes → is_nil (drop from bytes) ≡ (from == length bytes)
 is_nil-drop from bytes within =
     elim (cases_lt from (length bytes)) [
@@ -33,14 +33,14 @@ is_nil-drop from bytes within =
 refused_none : (o : Option Step) (rows : List (List Value)) (s : Standing) → o ≡ None → Took o false rows rows s
 refused_none o rows s e = subst (λ (x : Option Step). Took x false rows rows s) (sym e) tt
 
--- nothing goes on with a stream that has ended
+-- no chunk can come next after the end of the stream
 pub refused_ended : (from : ℕ) (bytes : List ℕ) (ended : Bool) (kind : ChunkKind) (body : List ℕ) (rows : List (List Value)) (s : Standing) → ended ≡ true
     → Took (goes_on (standing_at from bytes ended) (record { kind = kind; body = body })) false rows rows s
 unfolding goes_on
 refused_ended from bytes ended kind body rows s e =
     refused_none (goes_on (standing_at from bytes ended) (record { kind = kind; body = body })) rows s (ap (λ b. cond b None (cond (may_stand kind (drop from bytes)) (does kind (drop from bytes) body) None)) e)
 
--- nor a chunk that mustn't stand there
+-- nor can a chunk that isn't allowed here
 pub refused_there : (from : ℕ) (bytes : List ℕ) (ended : Bool) (kind : ChunkKind) (body : List ℕ) (rows : List (List Value)) (s : Standing) → ended ≡ false → may_stand kind (drop from bytes) ≡ false
     → Took (goes_on (standing_at from bytes ended) (record { kind = kind; body = body })) false rows rows s
 unfolding goes_on

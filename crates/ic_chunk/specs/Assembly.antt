@@ -7,7 +7,7 @@ use Rattle.ic_chunk.specs.declared.chunk.ChunkKind.{ChunkKind}
 use Rattle.ic_chunk.specs.declared.chunk.ChunkKind.TheVariants.{Whole, Start, Middle, End, EndOfStream, Empty}
 use Rattle.ic_chunk.specs.Chunks.{Chunk, IsChunk, spelled, payload_of, end_of_stream, joined}
 
--- a chunk before the end of stream
+-- any chunk but the end of stream
 pub record IsPart (c : Chunk) : Type 0 where
   pub allowed : IsChunk c
   pub goes_on : c.kind ≢ EndOfStream
@@ -42,17 +42,17 @@ abbrev pub IsPending : List Chunk → Type 0
 IsPending [] = Unit {0}
 IsPending (c ∷ cs) = (c.kind ≡ Start) × AreMiddles cs
 
--- lists, one behind the other
+-- the lists joined, one after another
 abbrev pub together : {A : Type 0} → List (List A) → List A
 together [] = []
 together (xs ∷ xss) = xs ++ together xss
 
--- the end of stream, if it is there
+-- the end of stream, if the flag says so
 abbrev pub ending : Bool → List Chunk
 ending true = end_of_stream ∷ []
 ending false = []
 
--- chunks that are the front of a stream: groups that spell rows, what has begun of the next row, and perhaps the end
+-- chunks at the front of a stream: groups that spell rows, the chunks of an unfinished row, and perhaps the end
 pub record IsFront (chunks : List Chunk) (rows : List (List Value)) (rest : List ℕ) (ended : Bool) : Type 0 where
   pub parts : List Chunk
   pub groups : List (List Chunk)
@@ -66,7 +66,7 @@ pub record IsFront (chunks : List Chunk) (rows : List (List Value)) (rest : List
   pub left : rest ≡ joined pending
   pub between : ended ≡ true → pending ≡ []
 
--- payloads that assemble to rows, to the bytes of a row that has begun, and to an end of the stream or none
+-- payloads that assemble to rows, to the bytes of an unfinished row, and to an end of stream or none
 pub record Assembles (payloads : List (List ℕ)) (rows : List (List Value)) (rest : List ℕ) (ended : Bool) : Type 0 where
   pub chunks : List (List Chunk)
   pub are : payloads ≡ map payload_of chunks
@@ -79,8 +79,9 @@ pub record IsStream (payloads : List (List ℕ)) : Type 0 where
   pub ended : Bool
   pub assemble : Assembles payloads rows rest ended
 
--- the chunk of this number, from 0, is the first of a payload that doesn't go on with the payloads before it: those
--- before it in this payload do, something is left behind them, and no chunk at the front of that does
+-- The chunk of this number, from 0, is the first of the payload that can't come next after the payloads before it: the
+-- chunks before it in this payload can, some bytes are left after them, and no chunk at the front of these bytes can
+-- come next.
 pub record IsFaultAt (before : List (List ℕ)) (payload : List ℕ) (place : ℕ) : Type 0 where
   pub chunks : List Chunk
   pub left : List ℕ

@@ -5,7 +5,7 @@ use Rattle.std.specs.List.{flat_map}
 use Rattle.ic_chunk.specs.declared.chunk.ChunkKind.{ChunkKind}
 use Rattle.ic_chunk.specs.declared.chunk.ChunkKind.TheVariants.{Whole, Start, Middle, End, EndOfStream, Empty}
 
--- a chunk: what it is for, and the bytes that it carries
+-- a chunk: its kind, and the bytes that it carries
 pub record Chunk : Type 0 where
   pub kind : ChunkKind
   pub body : List ℕ
@@ -13,7 +13,7 @@ pub record Chunk : Type 0 where
 abbrev pub chunk_of : ChunkKind → List ℕ → Chunk
 chunk_of kind body = record { kind = kind; body = body }
 
--- the number that stands for a kind
+-- the number of a kind
 abbrev pub kind_number : ChunkKind → ℕ
 kind_number Whole = 0
 kind_number Start = 1
@@ -22,7 +22,8 @@ kind_number End = 3
 kind_number EndOfStream = 4
 kind_number Empty = 5
 
--- may a chunk of this kind have a body of this size: at least 1 byte where it carries a row's, and else none
+-- whether a chunk of this kind may have a body of this size: at least 1 byte if it carries bytes of a row, and
+-- otherwise none
 abbrev pub allows : ChunkKind → ℕ → Bool
 allows Whole size = nat_lt 0 size
 allows Start size = nat_lt 0 size
@@ -40,7 +41,7 @@ pub record IsChunk (c : Chunk) : Type 0 where
 unfoldable pub spelled : Chunk → List ℕ
 spelled c = to_be_bytes w16 (length c.body) ++ to_be_bytes w16 (kind_number c.kind) ++ c.body
 
--- a payload is chunks that fill it exactly
+-- a payload: chunks that fill it exactly
 abbrev pub payload_of : List Chunk → List ℕ
 payload_of chunks = flat_map spelled chunks
 

@@ -8,7 +8,7 @@ use Rattle.ic_chunk.specs.Chunks.{Chunk, IsChunk, payload_of}
 
 -- ---- rows in chunks
 
--- 1 where a row ends with such a chunk
+-- 1 if a row ends with a chunk of this kind
 abbrev pub ends_row : ChunkKind → ℕ
 ends_row Whole = 1
 ends_row Start = 0
@@ -22,33 +22,33 @@ abbrev pub rows_ended : List Chunk → ℕ
 rows_ended [] = 0
 rows_ended (c ∷ cs) = ends_row c.kind + rows_ended cs
 
--- the number of the kind of the chunk at the front of bytes, and the bytes behind it
+-- the kind number of the chunk at the front of the bytes, and the bytes after the chunk
 unfoldable pub front_at : List ℕ → Option (ℕ × List ℕ)
 front_at bytes =
     if nat_lt (length bytes) 4 then None else
     (if nat_lt (length (drop 4 bytes)) (from_be_bytes w16 (take 2 bytes)) then None else
     Some (from_be_bytes w16 (take 2 (drop 2 bytes)), drop (from_be_bytes w16 (take 2 bytes)) (drop 4 bytes)))
 
--- the same of a kind's number
+-- 1 if a row ends with a chunk of this kind number
 abbrev pub ends_by : ℕ → ℕ
 ends_by n = if n == 0 then 1 else (if n == 3 then 1 else 0)
 
--- so many rows end in a payload, where it is one
+-- if the bytes are a payload, this many rows end in it
 abbrev pub HasEnded : List ℕ → ℕ → Type 0
 HasEnded payload n = (chunks : List Chunk) → AllByRecursion IsChunk chunks → payload ≡ payload_of chunks → n ≡ rows_ended chunks
 
--- so many end in some payloads
+-- this many rows end in these payloads
 abbrev pub HaveEnded : List (List ℕ) → ℕ → Type 0
 HaveEnded [] n = n ≡ 0
 HaveEnded (payload ∷ payloads) n = (k : ℕ) × (m : ℕ) × HasEnded payload k × HaveEnded payloads m × (n ≡ k + m)
 
 -- ---- a count of 64 bits
 
--- where it stands still
+-- the greatest value of the count, at which it stays
 abbrev pub greatest_count : ℕ
 greatest_count = 2 ^ 64 - 1
 
--- so many end in some payloads, as such a count tells it
+-- the count for payloads in which some number of rows end
 pub record HasCounted (payloads : List (List ℕ)) (count : ℕ) : Type 0 where
   pub ended : ℕ
   pub have : HaveEnded payloads ended

@@ -4,31 +4,31 @@ use Rattle.ic_chunk.specs.declared.chunk.ChunkKind.TheVariants.{Whole, Start, Mi
 use Rattle.ic_chunk.specs.declared.chunk.ChunkKind.{ChunkKind}
 use Rattle.ic_chunk.specs.Chunks.{Chunk}
 
--- how many bytes of a row a chunk has room for, in packets of this size: a header of 64, the chunk's head of 4,
--- and 4 that are kept for the end of stream
+-- The greatest length of a chunk's body in packets of this size. The packet header takes 64 bytes, the chunk's head 4,
+-- and 4 are kept for the end of stream.
 abbrev pub room_in : ℕ → ℕ
 room_in packet = packet - 72
 
--- this many pieces from the front of bytes, each as large as there is room, or what is left
+-- this many pieces from the front of the bytes, each as long as there is room for, or what is left
 abbrev pub pieces : ℕ → ℕ → List ℕ → List (List ℕ)
 pieces room zero bytes = []
 pieces room (suc n) bytes = take room bytes ∷ pieces room n (drop room bytes)
 
--- how many pieces there are, none of them empty
+-- how many pieces there are if none is empty
 unfoldable pub count_of : ℕ → List ℕ → ℕ
 count_of room bytes = (length bytes + room - 1) / room
 
--- the bytes cut into bodies: each fills the room but the last, which has what is left
+-- the bytes cut into bodies: each fills the room, except that the last has what is left
 abbrev pub bodies_of : ℕ → List ℕ → List (List ℕ)
 bodies_of room bytes = pieces room (count_of room bytes) bytes
 
--- the bodies behind a row's start: middles, and then an end
+-- the chunks after a row's start: middles, and then an end
 abbrev pub tail_of : List (List ℕ) → List Chunk
 tail_of [] = []
 tail_of (b ∷ []) = record { kind = End; body = b } ∷ []
 tail_of (b ∷ c ∷ bs) = record { kind = Middle; body = b } ∷ tail_of (c ∷ bs)
 
--- the bodies of a row: a whole chunk, or a start and its tail
+-- the chunks of a row: a whole one, or a start and its tail
 abbrev pub group_of : List (List ℕ) → List Chunk
 group_of [] = []
 group_of (b ∷ []) = record { kind = Whole; body = b } ∷ []
@@ -38,11 +38,11 @@ group_of (b ∷ c ∷ bs) = record { kind = Start; body = b } ∷ tail_of (c ∷
 abbrev pub chunks_of : ℕ → List ℕ → List Chunk
 chunks_of packet row = group_of (bodies_of (room_in packet) row)
 
--- the chunks that are still to come where this many bytes of a row were written
+-- the chunks still to come after this many bytes of the row were written
 abbrev pub left_of : ℕ → List ℕ → ℕ → List Chunk
 left_of room row done = if done == 0 then group_of (bodies_of room row) else tail_of (bodies_of room (drop done row))
 
--- the kind of a chunk with a row's first bytes, its last ones, both or neither
+-- the kind of a chunk by whether it has the row's first bytes, and whether it has the last ones
 abbrev pub kind_of : Bool → Bool → ChunkKind
 kind_of true true = Whole
 kind_of true false = Start

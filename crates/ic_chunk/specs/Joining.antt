@@ -1,4 +1,4 @@
--- A joiner, and what it was fed.
+-- A joiner, and the payloads that it took.
 use Rattle.std.specs.Prelude.{◌≡◌, ◌≢◌, ℕ, min, length, drop, List, [], ◌++◌, Bool, true, false, Option, Some, None}
 use Rattle.std.specs.List.{AllByRecursion}
 use Rattle.ic_row.specs.declared.value.Value.{Value}
@@ -6,46 +6,46 @@ use Rattle.ic_chunk.specs.Chunks.{Chunk, IsChunk, payload_of}
 use Rattle.ic_chunk.specs.Reading.{Standing, Step, chunk_at, goes_on, run}
 use Rattle.ic_chunk.specs.Assembly.{Assembles}
 
--- what a joiner keeps: the bytes of a row that has begun, and whether the stream has ended
+-- what a joiner keeps: the bytes of an unfinished row, and whether the stream has ended
 pub record Held : Type 0 where
   pub rest : List ℕ
   pub ended : Bool
 
--- this is what a joiner keeps that took these payloads and gave these rows
+-- a joiner that took these payloads and gave these rows keeps this
 abbrev pub Stands : Held → List (List ℕ) → List (List Value) → Type 0
 Stands held payloads rows = Assembles payloads rows held.rest held.ended
 
--- a number as it is told in four bytes: the greatest that they hold in place of each that is greater
+-- a number as it is told in four bytes: if it is too great, the greatest that they hold
 abbrev pub told : ℕ → ℕ
 told n = min n 4294967295
 
--- this number is told of one with this property
+-- some number has this property, and k is how it is told
 abbrev pub IsTold : (ℕ → Type 0) → ℕ → Type 0
 IsTold P k = (n : ℕ) × P n × (k ≡ told n)
 
 -- ---- while a payload is read
 
--- what the stream has come to where the row that has begun stands behind this many bytes
+-- the state of a stream whose unfinished row begins after this many of the bytes
 abbrev pub standing_at : ℕ → List ℕ → Bool → Standing
 standing_at from bytes ended = record { rest = drop from bytes; ended = ended }
 
--- new is old with more bytes behind it
+-- new is old with more bytes after it
 abbrev pub Keeps : List ℕ → List ℕ → Type 0
 Keeps old new = (more : List ℕ) × (new ≡ old ++ more)
 
--- a chunk was taken, or refused, as the stream goes on
+-- the chunk was taken, and this is what it did; or it can't come next, and was refused
 abbrev pub Took : Option Step → Bool → List (List Value) → List (List Value) → Standing → Type 0
 Took (Some step) true old new s = (new ≡ old ++ step.0) × (s ≡ step.1)
 Took (Some step) false old new s = ⊥
 Took None true old new s = ⊥
 Took None false old new s = Unit {0}
 
--- no chunk at the front of these bytes goes on with the stream
+-- no chunk at the front of these bytes can come next in the stream
 abbrev pub IsStuck : Standing → Option (Chunk × List ℕ) → Type 0
 IsStuck s None = Unit {0}
 IsStuck s (Some found) = goes_on s found.0 ≡ None
 
--- these bytes begin with so many chunks, which were taken
+-- these bytes begin with this many chunks, which were taken
 pub record Came (bytes left : List ℕ) (count : ℕ) (from to : Standing) (old new : List (List Value)) : Type 0 where
   pub chunks : List Chunk
   pub rows : List (List Value)
@@ -55,7 +55,7 @@ pub record Came (bytes left : List ℕ) (count : ℕ) (from to : Standing) (old 
   pub goes : run from chunks ≡ Some (rows, to)
   pub added : new ≡ old ++ rows
 
--- these bytes begin with so many chunks that go on with the stream, and something is left that doesn't
+-- these bytes begin with this many chunks that can come next, and some bytes are left with which no such chunk begins
 pub record Stops (bytes : List ℕ) (count : ℕ) (from : Standing) : Type 0 where
   pub left : List ℕ
   pub to : Standing

@@ -1,4 +1,4 @@
--- What follows of the format and of assembly.
+-- Laws of the format and of assembly.
 use Rattle.std.specs.Prelude.{◌≡◌, ℕ, ◌≤◌, List, [], ◌++◌, map, Bool}
 use Rattle.std.specs.List.{AllZip, flat_map}
 use Rattle.ic_row.specs.declared.value.Value.{Value}
@@ -7,7 +7,7 @@ use Rattle.ic_chunk.specs.Chunks.{Chunk, payload_of}
 use Rattle.ic_chunk.specs.Cutting.{chunks_of}
 use Rattle.ic_chunk.specs.Assembly.{Assembles, together, ending}
 
--- payloads assemble in one way at most
+-- payloads assemble in at most one way
 abbrev pub OneAssembly : Type 0
 OneAssembly =
     (payloads : List (List ℕ)) (rows others : List (List Value)) (rest other_rest : List ℕ) (ended other_ended : Bool)
@@ -21,8 +21,8 @@ FrontAssembles =
     → Assembles (payloads ++ more) rows rest ended
     → (first others : List (List Value)) × (begun : List ℕ) × (over : Bool) × Assembles payloads first begun over × (rows ≡ first ++ others)
 
--- the chunks that rows are cut into, behind them the end of stream or nothing, and in payloads however they are
--- filled, assemble to these rows
+-- the chunks into which rows are cut assemble to these rows, with or without the end of stream after them, however they
+-- are distributed over payloads
 abbrev pub CutAssembles : Type 0
 CutAssembles =
     (packet : ℕ) (rows : List (List Value)) (spellings : List (List ℕ)) (payloads : List (List Chunk)) (ended : Bool)

@@ -10,7 +10,7 @@ use Rattle.ic_chunk.specs.Chunks.{Chunk, allows}
 
 -- ---- one chunk
 
--- the kind that a number stands for
+-- the kind with this number
 unfoldable pub kind_at : ℕ → Option ChunkKind
 kind_at n =
     if n == 0 then Some Whole else
@@ -20,13 +20,13 @@ kind_at n =
     (if n == 4 then Some EndOfStream else
     (if n == 5 then Some Empty else None)))))
 
--- a chunk of a kind, whose body has this size and stands at the front of bytes, and the bytes behind it
+-- a chunk of this kind and size whose body is at the front of the bytes, and the bytes after it
 abbrev pub body_at : ℕ → List ℕ → ChunkKind → Option (Chunk × List ℕ)
 body_at size bytes kind =
     if nat_lt (length bytes) size then None else
     (if allows kind size then Some (record { kind = kind; body = take size bytes }, drop size bytes) else None)
 
--- the size in two bytes, the kind in two, and the body; None where they can't be read
+-- the size in two bytes, the kind in two, and the body; None if they can't be read
 unfoldable pub chunk_at : List ℕ → Option (Chunk × List ℕ)
 chunk_at bytes =
     if nat_lt (length bytes) 4 then None else
@@ -34,12 +34,12 @@ chunk_at bytes =
 
 -- ---- a stream
 
--- what a stream has come to: the bytes of a row that has begun, none between rows, and whether it has ended
+-- the state of a stream: the bytes of an unfinished row, none between rows, and whether the stream has ended
 pub record Standing : Type 0 where
   pub rest : List ℕ
   pub ended : Bool
 
--- rows, and what the stream has come to behind them
+-- rows, and the state of the stream after them
 abbrev pub Step : Type 0
 Step = List (List Value) × Standing
 
@@ -47,8 +47,8 @@ abbrev pub is_nil : List ℕ → Bool
 is_nil [] = true
 is_nil (b ∷ bytes) = false
 
--- may a chunk of this kind stand behind these bytes of a row that has begun: a whole row, a start and the end of
--- stream stand between rows, a middle and an end within one, and an empty chunk anywhere
+-- whether a chunk of this kind is allowed after these bytes of an unfinished row: a whole row, a start and the end of
+-- stream only between rows, a middle and an end only within a row, an empty chunk anywhere
 abbrev pub may_stand : ChunkKind → List ℕ → Bool
 may_stand Whole rest = is_nil rest
 may_stand Start rest = is_nil rest
@@ -57,7 +57,7 @@ may_stand End rest = not (is_nil rest)
 may_stand EndOfStream rest = is_nil rest
 may_stand Empty rest = true
 
--- no row ends here, and these are the bytes of the one that has begun
+-- no row ends here, and these are the bytes of the unfinished one
 abbrev pub goes : List ℕ → Option Step
 goes rest = Some ([], record { rest = rest; ended = false })
 
@@ -66,7 +66,7 @@ abbrev pub ends : Result (List Value) ℕ → Option Step
 ends (Ok row) = Some (row ∷ [], record { rest = []; ended = false })
 ends (Err place) = None
 
--- what a chunk does where it may stand
+-- what a chunk does if it is allowed here
 abbrev pub does : ChunkKind → List ℕ → List ℕ → Option Step
 does Whole rest body = ends (read_row_of body)
 does Start rest body = goes body
@@ -75,7 +75,7 @@ does End rest body = ends (read_row_of (rest ++ body))
 does EndOfStream rest body = Some ([], record { rest = []; ended = true })
 does Empty rest body = goes rest
 
--- one chunk on; None where it doesn't go on with the stream
+-- the stream after one more chunk; None if the chunk can't come next
 unfoldable pub goes_on : Standing → Chunk → Option Step
 goes_on s c = if s.ended then None else (if may_stand c.kind s.rest then does c.kind s.rest c.body else None)
 
@@ -83,11 +83,11 @@ abbrev pub behind : List (List Value) → Option Step → Option Step
 behind rows None = None
 behind rows (Some step) = Some (rows ++ step.0, step.1)
 
--- many chunks on
+-- the stream after many more chunks
 abbrev pub run : Standing → List Chunk → Option Step
 run s [] = Some ([], s)
 run s (c ∷ cs) = option_and_then (λ step. behind step.0 (run step.1 cs)) (goes_on s c)
 
--- a stream of which nothing has come
+-- a stream before its first chunk
 abbrev pub fresh : Standing
 fresh = record { rest = []; ended = false }

@@ -1,4 +1,4 @@
-// One chunk, both ways.
+// One chunk, written and read.
 ghost use Rattle.std.specs.Prelude.{◌≡◌, ℕ, List, ◌<◌, ◌^◌, ◌++◌, length, OnOk, OnErr};
 ghost use Rattle.ic_chunk.specs.Chunks.{chunk_of, kind_number, allows, spelled, end_of_stream};
 ghost use Rattle.ic_chunk.specs.Reading.{kind_at, chunk_at};
@@ -6,24 +6,24 @@ ghost use Rattle.ic_chunk.specs.Seen.{seen};
 
 use std::alloc::AllocError;
 
-/// What a chunk is for. Its number stands in the chunk's head.
+/// What a chunk carries. The chunk's head has its number.
 #[derive(Clone, Copy, Debug, PartialEq, Eq)]
 pub enum ChunkKind {
-    /// A row in one chunk.
+    /// A whole row.
     Whole,
     /// The first bytes of a row.
     Start,
-    /// Bytes of a row between its first and its last.
+    /// Bytes of a row between its first and its last ones.
     Middle,
     /// The last bytes of a row.
     End,
-    /// The sender has no more rows. It carries no bytes.
+    /// No bytes: the sender has no more rows.
     EndOfStream,
-    /// Nothing: it is skipped, carries no bytes, and is never written.
+    /// No bytes: the chunk is skipped. It is read but never written.
     Empty,
 }
 
-/// A kind's number, 0..=5.
+/// The number of a kind, 0..=5.
 fn number_of(kind: ChunkKind) -> u16
     ensures { result ≡ kind_number kind }
 {
@@ -37,7 +37,7 @@ fn number_of(kind: ChunkKind) -> u16
     }
 }
 
-/// The four bytes in front of a body of this many bytes.
+/// The four bytes before a body of this many bytes.
 #[tactic(auto, unfolding(crate::specs::Chunks::spelled))]
 fn head(kind: ChunkKind, size: u16) -> [u8; 4]
     ensures { (body : List ℕ) → length body ≡ size → spelled (chunk_of kind body) ≡ result ++ body }
@@ -47,7 +47,7 @@ fn head(kind: ChunkKind, size: u16) -> [u8; 4]
     [size[0], size[1], number[0], number[1]]
 }
 
-/// Appends a chunk. Grows `out` at most once, and copies the body once.
+/// Appends a chunk. Allocates at most once, and copies the body once.
 pub(crate) fn push_chunk(out: &mut Vec<u8>, kind: ChunkKind, body: &[u8]) -> Result<(), AllocError>
     requires { length body.now < 2 ^ 16 }
     ensures ok { OnOk result (out.new.items ≡ out.old.items ++ spelled (chunk_of kind body.now)) }
@@ -60,7 +60,7 @@ pub(crate) fn push_chunk(out: &mut Vec<u8>, kind: ChunkKind, body: &[u8]) -> Res
     Ok(())
 }
 
-/// Appends the end of stream: the four bytes `00 00 00 04`.
+/// Appends the end of stream: the four bytes `00 00 00 04`. Fails only if out of memory.
 pub fn push_end_of_stream(out: &mut Vec<u8>) -> Result<(), AllocError>
     ensures ok { OnOk result (out.new.items ≡ out.old.items ++ spelled end_of_stream) }
     ensures err { OnErr result (out.new.items ≡ out.old.items) }
@@ -68,7 +68,7 @@ pub fn push_end_of_stream(out: &mut Vec<u8>) -> Result<(), AllocError>
     push_chunk(out, ChunkKind::EndOfStream, &[])
 }
 
-/// The kind of a number, and `None` where it has none.
+/// The kind with this number, or `None` if there is none.
 #[tactic(auto, unfolding(crate::specs::Reading::kind_at))]
 fn kind_at(number: u16) -> Option<ChunkKind>
     ensures { result ≡ kind_at number }
@@ -84,7 +84,7 @@ fn kind_at(number: u16) -> Option<ChunkKind>
     }
 }
 
-/// May a chunk of this kind have a body of this many bytes?
+/// Whether a chunk of this kind may have a body of this many bytes.
 fn allows(kind: ChunkKind, size: usize) -> bool
     ensures { result ≡ allows kind size }
 {
@@ -94,10 +94,10 @@ fn allows(kind: ChunkKind, size: usize) -> bool
     }
 }
 
-/// A chunk's kind, its body, and the bytes behind it.
+/// A chunk's kind, its body, and the bytes after it.
 pub(crate) type Found<'a> = Option<(ChunkKind, &'a [u8], &'a [u8])>;
 
-/// The chunk at the front of bytes. `None` where the head or the body is cut off, or the head's words aren't allowed.
+/// The chunk at the front of the bytes. `None` if its head or body is cut off, or if its head isn't allowed.
 #[tactic(auto, unfolding(crate::specs::Reading::chunk_at))]
 pub(crate) fn chunk_at(bytes: &[u8]) -> Found<'_>
     ensures { seen result ≡ chunk_at bytes.now }

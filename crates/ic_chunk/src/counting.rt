@@ -1,8 +1,9 @@
-// Rows in payloads.
+// Counting the rows in payloads.
 ghost use Rattle.std.specs.Prelude.{◌≡◌, ◌<◌, ◌+◌, ◌++◌, [], ◌∷◌, ℕ, List, length, min, option_map, IfSome};
 ghost use Rattle.ic_chunk.specs.Counts.{front_at, ends_by, HasEnded, HasCounted, greatest_count};
 
-/// The number of the kind of the chunk at the front of bytes, and the bytes behind it. `None` where the chunk is cut off.
+/// The kind number of the chunk at the front of the bytes, and the bytes after the chunk. `None` if the chunk is cut
+/// off.
 #[tactic(auto, unfolding(crate::specs::Counts::front_at))]
 fn next_chunk(bytes: &[u8]) -> Option<(u16, &[u8])>
     ensures front { option_map (λ found. (found.0, found.1.now)) result ≡ front_at bytes.now }
@@ -18,7 +19,7 @@ fn next_chunk(bytes: &[u8]) -> Option<(u16, &[u8])>
     Some((u16::from_be_bytes(*kind), behind))
 }
 
-/// 1 where a row ends with a chunk of this kind's number.
+/// 1 if a row ends with a chunk of this kind number, otherwise 0.
 fn ends_by(kind: u16) -> usize
     ensures { result ≡ ends_by kind }
 {
@@ -28,8 +29,8 @@ fn ends_by(kind: u16) -> usize
     }
 }
 
-/// How many rows end in a payload: chunks that are whole rows, or the ends of rows. Goes over the heads of its chunks, and
-/// reads none of their bodies. Of bytes that aren't a payload it counts as far as they are chunks.
+/// How many rows end in a payload: its chunks that are whole rows or the ends of rows. Reads only the heads of the
+/// chunks, never their bodies. If the bytes aren't a payload, it counts until the first byte that begins no chunk.
 pub fn rows_ended(payload: &[u8]) -> usize
     ensures { HasEnded payload.now result }
 {
@@ -42,14 +43,14 @@ pub fn rows_ended(payload: &[u8]) -> usize
     count
 }
 
-/// A count with some more. Stands still at its greatest value.
+/// The sum, up to the greatest value of the count.
 fn added(count: u64, more: usize) -> u64
     ensures { result ≡ min greatest_count (count + more) }
 {
     count.saturating_add(more as u64)
 }
 
-/// The count of the rows that end in some payloads, with those of the next one. Stands still at its greatest value.
+/// Adds the rows that end in the next payload to the count of those before. The count stays at its greatest value.
 pub fn count_more(count: u64, payload: &[u8]) -> u64
     ensures { (payloads : List (List ℕ)) → HasCounted payloads count → HasCounted (payloads ++ payload.now ∷ []) result }
 {

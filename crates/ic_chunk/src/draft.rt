@@ -10,22 +10,23 @@ use crate::fault::FeedNo;
 use ic_row::{Row, RowNo, Rows, read_row};
 use std::alloc::{AllocError, Global};
 
-/// What a payload has come to so far. It only adds to the bytes that it was given, so that whoever gave them can take
-/// them back.
+/// What was read of a payload so far. It only appends to the bytes that it was given, so that the caller can have them
+/// back.
 #[derive(Drop)]
 pub(crate) struct Draft {
-    /// The bytes of a row that had begun, and behind them those of this payload's starts, middles and ends.
+    /// The bytes of an unfinished row from earlier payloads, and then the bodies of this payload's starts, middles and
+    /// ends.
     pub bytes: Vec<u8>,
-    /// Where in them the row begins that has begun now; at their end between rows.
+    /// The position in these bytes at which the unfinished row begins; their end if no row is unfinished.
     pub from: usize,
-    /// Did the end of stream come?
+    /// Whether the end of stream came.
     pub ended: bool,
     /// The rows that ended in this payload.
     pub rows: Rows,
     ghost within: { from ≤ vec_len bytes },
 }
 
-/// May a chunk of this kind stand here?
+/// Whether a chunk of this kind is allowed here, between two rows or within a row.
 fn may_stand(kind: ChunkKind, between: bool) -> bool
     ensures { (rest : List ℕ) → is_nil rest ≡ between → result ≡ may_stand kind rest }
 {
@@ -36,7 +37,7 @@ fn may_stand(kind: ChunkKind, between: bool) -> bool
     }
 }
 
-/// The row that bytes spell, and `None` where they spell none.
+/// The row that the bytes spell, or `None` if they spell none.
 fn row_of(alloc: Global, bytes: &[u8]) -> Result<Option<Row>, AllocError>
     ensures { IfOk result (λ found. MatchOption found
         (ends (read_row_of bytes.now) ≡ None)
@@ -52,7 +53,7 @@ fn row_of(alloc: Global, bytes: &[u8]) -> Result<Option<Row>, AllocError>
 impl Draft {
     ghost use Rattle.ic_chunk.specs.Drafts.{standing, Takes, Reads};
 
-    /// Takes a chunk, and says false where it doesn't go on with the stream.
+    /// Takes a chunk. Gives `false` if the chunk can't come next in the stream.
     fn take(&mut self, alloc: Global, kind: ChunkKind, body: &[u8]) -> Result<bool, AllocError>
         ensures took { IfOk result (Takes (goes_on (standing self.old) (chunk_of kind body.now)) self.old self.new) }
         ensures keeps { Keeps self.old.bytes.items self.new.bytes.items }
@@ -63,7 +64,7 @@ impl Draft {
         self.take_allowed(alloc, kind, body)
     }
 
-    /// Takes a chunk that may stand here, and says false where bytes spell no row.
+    /// Takes a chunk of a kind that is allowed here. Gives `false` if its bytes spell no row.
     fn take_allowed(
         &mut self,
         alloc: Global,
@@ -150,7 +151,7 @@ impl Draft {
         Ok(())
     }
 
-    /// The first of its bytes, which it was given.
+    /// The bytes that it was given, without those that it appended.
     pub(crate) fn taken_back(self, kept: usize) -> Vec<u8>
         ensures { result.items ≡ take kept self.bytes.items }
     {

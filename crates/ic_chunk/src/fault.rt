@@ -4,13 +4,14 @@ ghost use Rattle.ic_chunk.specs.declared.fault.FeedNo.TheVariants.{Memory};
 
 use std::alloc::{AllocError, AllocFailed};
 
-/// Why a joiner gives no rows for a payload.
+/// Why a joiner gave no rows for a payload.
 #[derive(Clone, Copy, Debug, PartialEq, Eq)]
 pub enum FeedNo {
-    /// The payloads' sender: with this one they are no front of a stream of rows. Holds the number, from 0, of this
-    /// payload's first chunk that doesn't go on with the stream, or 4294967295 where it is greater.
+    /// The doing of the payloads' sender: with this payload they aren't the front of a stream of rows. Holds the
+    /// number, from 0, of the first chunk of this payload that can't come next, or 4294967295 if that number is
+    /// greater.
     ChunkFault { chunk: u32 },
-    /// This side: no memory was left. The payload may be fed again.
+    /// Out of memory on this side. The payload may be fed again.
     Memory,
 }
 

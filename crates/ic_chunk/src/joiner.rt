@@ -1,4 +1,4 @@
-// Payloads to rows.
+// Payloads joined to rows.
 ghost use Rattle.std.specs.Prelude.{◌≡◌, ℕ, List, [], ◌∷◌, ◌++◌, length, drop, false, IfOk, OnErr, IsErrOf};
 ghost use Rattle.ic_row.specs.Values.{Datum};
 ghost use Rattle.ic_chunk.specs.Seen.{IsBytes};
@@ -13,19 +13,19 @@ use std::mem;
 /// What one payload gave.
 #[derive(Drop, Debug)]
 pub struct Fed {
-    /// The rows that ended in it.
+    /// The rows that ended in this payload.
     pub rows: Rows,
-    /// Has the stream ended, in this payload or before?
+    /// Whether the stream has ended, with this payload or before.
     pub ended: bool,
 }
 
 /// The receiving end of one stream of chunks. Feed it the payloads of one sender in the order of their packets.
 ///
-/// It keeps the bytes of a row that has begun and of no other. A payload that it refuses leaves it as it was, so that it
-/// goes on with the next one.
+/// Between two calls it keeps only the bytes of an unfinished row. A payload that it refuses leaves it unchanged, so it
+/// can be fed another one.
 #[derive(Drop)]
 pub struct Joiner {
-    /// The bytes of a row that has begun.
+    /// The bytes of an unfinished row.
     rest: Vec<u8>,
     ended: bool,
 }
@@ -42,7 +42,7 @@ impl Joiner {
     ghost use Rattle.ic_chunk.specs.Assembly.{IsStream, IsFaultAt};
     ghost use Rattle.ic_chunk.specs.Joining.{Held, Stands, IsTold};
 
-    /// A joiner that was fed nothing. Takes no memory.
+    /// A joiner that has taken nothing. Takes no memory.
     pub fn new(alloc: Global) -> Joiner
         ensures value { result ≡ record { rest = []; ended = false } }
         ensures stands { Stands result [] [] }
@@ -53,16 +53,16 @@ impl Joiner {
         }
     }
 
-    /// Takes the next payload: walks its chunks once, and copies the bodies of starts, middles and ends once.
+    /// Takes the next payload. Walks its chunks once, and copies the bodies of starts, middles and ends once.
     ///
-    /// `ChunkFault` is the sender's doing, or that of whoever fed the payloads in another order.
+    /// `ChunkFault` is the doing of the sender, or of a caller that fed payloads in the wrong order.
     pub fn feed(&mut self, alloc: Global, payload: &[u8]) -> Result<Fed, FeedNo>
-        // The payloads so far with this one assemble to the rows so far and these, and to what is kept.
+        // All payloads so far assemble to all rows so far and to what is kept.
         ensures ok { IfOk result (λ fed. (payloads : List (List ℕ)) (rows : List (List Datum))
             → Stands self.old payloads rows → Stands self.new (payloads ++ payload.now ∷ []) (rows ++ fed.rows)) }
         ensures ended { IfOk result (λ fed. self.new.ended ≡ fed.ended) }
 
-        // They are the front of no stream, and this chunk of the payload is the first that doesn't go on with it.
+        // The payloads are no front of a stream, and this chunk of the new one is the first that can't come next.
         ensures fault { (k : ℕ) → IsErrOf result (FeedNo.ChunkFault k)
             → (payloads : List (List ℕ)) (rows : List (List Datum)) → Stands self.old payloads rows
             → (IsStream (payloads ++ payload.now ∷ []) → ⊥) × IsTold (IsFaultAt payloads payload.now) k }
@@ -84,7 +84,7 @@ impl Joiner {
         }
     }
 
-    /// Keeps what is left of a payload that was read, and gives its rows.
+    /// Keeps what was read beyond the last whole row, and gives the rows.
     fn keep(&mut self, draft: Draft) -> Fed
         ensures kept { self.new ≡ record self.old { rest = drop draft.from draft.bytes.items; ended = draft.ended } }
         ensures given { (result.rows ≡ draft.rows) × (result.ended ≡ draft.ended) }
@@ -104,7 +104,7 @@ impl Joiner {
     }
 }
 
-/// How many bytes there are.
+/// The number of bytes.
 fn len_of(bytes: &[u8]) -> usize
     ensures count { result ≡ length bytes.now }
     ensures each { IsBytes bytes.now }

@@ -1,18 +1,18 @@
-// Laws of chunks, each carried by a function that has nothing to run.
+// Laws of chunks. Each is the contract of a function with an empty body.
 ghost use Rattle.ic_chunk.specs.Laws.{OneAssembly, FrontAssembles, CutAssembles};
 
-/// Payloads assemble in one way at most: to one list of rows, one rest and one end.
+/// Payloads assemble in at most one way: to one list of rows, one unfinished row and one end.
 pub fn one_assembly()
     ensures { OneAssembly }
 {}
 
-/// The first payloads of a stream are the front of a stream, and their rows are its first rows.
+/// The first payloads of a stream are the front of a stream, and their rows are the first of its rows.
 pub fn front_assembles()
     ensures { FrontAssembles }
 {}
 
-/// What a [`crate::Splitter`] makes of rows, and then the end of stream or nothing, assembles to these rows, in whatever
-/// payloads the chunks are put.
+/// The chunks that a [`crate::Splitter`] makes of rows assemble to these rows, with or without the end of stream after
+/// them, however the chunks are distributed over payloads.
 pub fn cut_assembles()
     ensures { CutAssembles }
 {}

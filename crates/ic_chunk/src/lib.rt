@@ -1,15 +1,15 @@
-//! Rows cut into tuple chunks, and payloads of chunks joined to rows again, with no packet header, no connection and
-//! no clock.
+//! Rows cut into tuple chunks (fragmentation), and payloads of chunks joined to rows again (reassembly). No packet
+//! header, no connection and no clock.
 //!
-//! A sender drives a [`Splitter`] for each row: `next` appends one chunk to a buffer, until it says that none is left.
-//! A receiver keeps one [`Joiner`] for each sender, and feeds it the payloads in the order of their packets: `feed`
-//! gives the rows that are whole now.
+//! A sender makes a [`Splitter`] for each row: each `next` appends one chunk to a buffer, until none is left. A
+//! receiver keeps one [`Joiner`] for each sender and feeds it the payloads in the order of their packets: each `feed`
+//! gives the rows that were completed.
 //!
-//! Each end of a connection counts the rows that it puts or takes, with no row read and no byte copied: [`count_more`]
-//! adds those that end in one payload to a count of 64 bits, which stays at its greatest value. [`rows_ended`] is the
-//! number in one payload.
+//! Each end of a connection counts the rows that it puts or takes. [`count_more`] adds those that end in one payload to
+//! a count of 64 bits, which stays at its greatest value. [`rows_ended`] is the number for one payload. Neither reads a
+//! row or copies a byte.
 //!
-//! Below: `ic_row`, `ic_base`. Above: whoever sends or receives rows.
+//! Below: `ic_row`, `ic_base`. Above: whatever sends or receives rows.
 #![tactic(auto)]
 
 mod chunk;

@@ -1,4 +1,4 @@
-// Rows to chunks.
+// Rows cut into chunks.
 ghost use Rattle.std.specs.Prelude.{◌≡◌, ℕ, ◌<◌, ◌≤◌, List, [], ◌∷◌, ◌++◌, true, false, OnErr, Ok};
 ghost use Rattle.ic_chunk.specs.Cutting.{kind_of};
 
@@ -7,18 +7,18 @@ use ic_base::Bytes;
 use std::alloc::AllocError;
 use std::marker::Model;
 
-/// Bytes of a packet that no body can have: its header of 64, the chunk's head of 4, and 4 that are kept for the end of
-/// stream.
+/// Bytes of a packet in which a chunk's body has no room: the packet header of 64, the chunk's head of 4, and 4 kept
+/// for the end of stream.
 const TAKEN: usize = 72;
 
-/// A row's spelling being cut into chunks, seen as the list of the chunks that are still to come. It shares the
-/// spelling's bytes and copies each of them once, into the buffer that it is given.
+/// A row's spelling while it is cut into chunks, seen as the list of the chunks still to come. It shares the spelling's
+/// bytes, and copies each of them once, into the caller's buffer.
 #[derive(Drop)]
 pub struct Splitter {
     row: Bytes,
-    /// How many bytes of the row were written.
+    /// How many bytes of the row were written so far.
     done: usize,
-    /// How many bytes of the row a chunk has room for.
+    /// The greatest length of a chunk's body, in bytes.
     room: usize,
 }
 
@@ -38,7 +38,8 @@ impl Splitter {
     ghost use Rattle.ic_chunk.specs.Chunks.{Chunk, spelled};
     ghost use Rattle.ic_chunk.specs.Cutting.{chunks_of};
 
-    /// Begins to cut a row's spelling for packets of this many bytes, 128..=65507. Copies nothing.
+    /// Begins to cut a row's spelling for packets of at most `packet` bytes, 128..=65507. Copies nothing, takes no
+    /// memory.
     pub fn new(row: Bytes, packet: u32) -> Splitter
         requires least { 128 ≤ packet }
         requires greatest { packet ≤ 65507 }
@@ -51,7 +52,7 @@ impl Splitter {
         }
     }
 
-    /// Appends the next chunk to `out`, and says false where none is left.
+    /// Appends the next chunk to `out`. Gives `false` if none is left. Fails only if out of memory.
     pub fn next(&mut self, out: &mut Vec<u8>) -> Result<bool, AllocError>
         ensures chunk { result ≡ Ok true
             → (c : Chunk) × (self.old ≡ c ∷ self.new) × (out.new.items ≡ out.old.items ++ spelled c) }
@@ -72,7 +73,7 @@ impl Splitter {
     }
 }
 
-/// The kind of a chunk with a row's first bytes, its last ones, both or neither.
+/// The kind of a chunk by whether it has the row's first bytes, and whether it has the last ones.
 fn kind_of(first: bool, last: bool) -> ChunkKind
     ensures { result ≡ kind_of first last }
 {

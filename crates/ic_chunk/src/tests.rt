@@ -1,4 +1,4 @@
-// Worked bytes, and what no clause says: that memory serves.
+// Worked bytes, and what no clause says: that the calls which allocate succeed when there is memory.
 ghost use Rattle.std.specs.Prelude.{◌≤◌};
 
 mod counting;
@@ -115,7 +115,7 @@ fn a_row_comes_with_the_payload_that_ends_it(rt: HostRuntime) -> Result<(), Fail
     Ok(())
 }
 
-/// How many starts, middles and ends of these sizes, and how many other chunks, a spelling is cut into.
+/// How many starts, middles and ends of these sizes a spelling is cut into, and how many other chunks.
 fn counts(alloc: Global, spelling: &[u8], packet: u32, last: u8) -> Result<[u32; 4], Fail>
     requires least { 128 ≤ packet }
     requires greatest { packet ≤ 65507 }

@@ -1,4 +1,4 @@
--- Slots: what they count, where they lead, and that they come to each end once.
+-- Slots: what they count, which end is in each, and that each end is in one.
 use Rattle.std.proofs.Common.{◌≡◌, ℕ, ◌+◌, suc, zero, Bool, true, false, not, cond, List, [], ◌∷◌, filter, length, take, get_or, slice_get, All, Option, None, Some, refl, sym, ap, ◌∙◌, arith}
 use Rattle.std.specs.List.{filter_map, range_with_len}
 use Rattle.std.specs.Option.{option_map}
@@ -10,7 +10,7 @@ use Rattle.ic_conntab.specs.Ends.{sending_ends, receiving_ends}
 use Rattle.ic_conntab.specs.Slots.{slot_at, slots_behind, slots_of, end_at, IsWithin, sender_in, receiver_in}
 use Rattle.ic_conntab.specs.PlaceLaws.{SlotsAreTheirEnds, SlotsComeOnce}
 
--- an element that passes stands in the filter behind those before it that pass
+-- an element that passes comes in the filtered list after those before it that pass
 filtered_place : {X : Type 0} (p : X → Bool) (xs : List X) (i : ℕ) (x : X) → slice_get xs i ≡ Some x → p x ≡ true → slice_get (filter p xs) (length (filter p (take i xs))) ≡ Some x
 filtered_place p [] i x h passes = absurd (cc)
 filtered_place p (y ∷ ys) zero x h passes =
@@ -23,7 +23,7 @@ filtered_place p (y ∷ ys) (suc i) x h passes = by (p y) (filtered_place p ys i
     by true g = g
     by false g = g
 
--- the slot of an end where so many stand before all
+-- the slot of an end, if this many ends come before all of them
 counted : ℕ → ℕ → List ConnEnd → ℕ → ConnEnd → Slot
 counted senders receivers ends i e = slot_at e.sending (senders + length (sending_ends (take i ends))) (receivers + length (receiving_ends (take i ends)))
 
@@ -70,7 +70,7 @@ slot_of_end ends e i h =
     let r : 0 + length (receiving_ends (take i ends)) ≡ length (receiving_ends (take i ends)) = omega arith in
     slots_count 0 0 ends i ∙ ap (option_map (counted 0 0 ends i)) h ∙ (λ k. Some (slot_at e.sending (s k) (r k)))
 
--- the end at it is the end
+-- the end in that slot is the end
 end_there : (ends : List ConnEnd) (e : ConnEnd) (i : ℕ) → slice_get ends i ≡ Some e
     → end_at ends (slot_at e.sending (length (sending_ends (take i ends))) (length (receiving_ends (take i ends)))) ≡ Some e
 end_there ends e i h = by e.sending refl
@@ -96,7 +96,7 @@ pub slots_are_their_ends : SlotsAreTheirEnds
 unfolding slots_of
 slots_are_their_ends ends = (slots_long 0 0 ends, slot_of_end ends, slot_leads ends)
 
--- each slot is a place at which an end stands
+-- there is an end in each slot
 stands : (ends : List ConnEnd) (slot : Slot) (e : ConnEnd) → end_at ends slot ≡ Some e → IsWithin ends slot
 stands ends (Sender place) e h = slice_get_within (sending_ends ends) place e h
 stands ends (Receiver place) e h = slice_get_within (receiving_ends ends) place e h

@@ -15,7 +15,7 @@ module _ {K : Type 0} where
   one_passes : (p : K → Bool) (x : K) (xs : List K) (b : Bool) → p x ≡ b → filter p (x ∷ xs) ≡ cond b (x ∷ filter p xs) (filter p xs)
   one_passes p x xs b h = ap (λ c. cond c (x ∷ filter p xs) (filter p xs)) h
 
-  -- a filter of a filter asks both
+  -- filtering twice asks both
   pub filter_twice : (p q : K → Bool) (xs : List K) → filter p (filter q xs) ≡ filter (λ x. q x && p x) xs
   filter_twice p q [] = refl
   filter_twice p q (x ∷ xs) = by (q x) refl (filter_twice p q xs)
@@ -28,7 +28,7 @@ module _ {K : Type 0} where
           ap (filter p) (one_passes q x xs false e) ∙ rest
           ∙ sym (one_passes (λ y. q y && p y) x xs false (ap (λ c. c && p x) e))
 
-  -- a filter that all pass keeps all
+  -- filtering keeps all if all pass
   pub filter_all : (p : K → Bool) → ((x : K) → p x ≡ true) → (xs : List K) → filter p xs ≡ xs
   filter_all p all [] = refl
   filter_all p all (x ∷ xs) = one_passes p x xs true (all x) ∙ ap (λ l. x ∷ l) (filter_all p all xs)
@@ -41,7 +41,7 @@ module _ {K : Type 0} where
       by true rest = (h.0, rest)
       by false rest = rest
 
-  -- what is left of distinct elements is distinct
+  -- a filter of distinct elements is distinct
   IsDistinct-filtered : (eq : K → K → Bool) (p : K → Bool) (xs : List K) → IsDistinct eq xs → IsDistinct eq (filter p xs)
   IsDistinct-filtered eq p [] h = h
   IsDistinct-filtered eq p (x ∷ xs) h = by (p x) (IsDistinct-filtered eq p xs (IsDistinct-tail eq x xs h))
@@ -66,7 +66,7 @@ module _ {K : Type 0} (eq : K → K → Bool) (same : (x y : K) → eq x y ≡ t
   is_new : List K → K → Bool
   is_new ks y = not (list_any (eq y) ks)
 
-  -- one that is there already takes out only what is there
+  -- if an element is in the set already, putting it changes nothing
   there : (ks : List K) (x : K) → list_any (eq x) ks ≡ true → (y : K) → (not (eq x y) && is_new ks y) ≡ is_new ks y
   unfolding is_new
   there ks x h y = by (eq x y) refl
@@ -75,7 +75,7 @@ module _ {K : Type 0} (eq : K → K → Bool) (same : (x y : K) → eq x y ≡ t
       by false e = ap (λ b. not b && not (list_any (eq y) ks)) e
       by true e = ap (λ b. not b && not (list_any (eq y) ks)) e ∙ sym (ap not (ap (λ z. list_any (eq z) ks) (sym (same x y e)) ∙ h))
 
-  -- one that isn't is there afterwards
+  -- if it isn't, it is there afterwards
   behind : (ks : List K) (x y : K) → (not (eq x y) && is_new ks y) ≡ is_new (ks ++ x ∷ []) y
   unfolding is_new
   behind ks x y =

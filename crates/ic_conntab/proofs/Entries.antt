@@ -17,19 +17,19 @@ module _ {X : Type 0} where
   pub get_entry : (es : List (ℕ × X)) (q : ℕ) → get (from_entries {R = nat_cmp} es) q ≡ lookup (λ k. q == k) es
   get_entry es q = get-from_entries nat_cmp_total es q ∙ find_entry es q
 
-  -- entries that differ by one key that was put make maps that do
+  -- entries that differ by one put key make maps that differ so
   pub one_put : (es fs : List (ℕ × X)) (k : ℕ) (v : X) → ((q : ℕ) → lookup (λ x. q == x) fs ≡ cond (k == q) (Some v) (lookup (λ x. q == x) es))
       → from_entries {R = nat_cmp} fs ≡ insert (from_entries es) k v
   one_put es fs k v h = same_map nat_cmp_total nat_cmp-IsAntisymmetric _ _ (λ q. get_entry fs q ∙ h q
       ∙ (λ i. cond (sym (tied k q) i) (Some v) (sym (get_entry es q) i)) ∙ sym (get-insert nat_cmp_total (from_entries es) k v q))
 
-  -- and so do those that differ by one that was taken out
+  -- and entries that differ by one removed key
   pub one_taken : (es fs : List (ℕ × X)) (k : ℕ) → ((q : ℕ) → lookup (λ x. q == x) fs ≡ cond (k == q) None (lookup (λ x. q == x) es))
       → from_entries {R = nat_cmp} fs ≡ remove (from_entries es) k
   one_taken es fs k h = same_map nat_cmp_total nat_cmp-IsAntisymmetric _ _ (λ q. get_entry fs q ∙ h q
       ∙ (λ i. cond (sym (tied k q) i) None (sym (get_entry es q) i)) ∙ sym (get-remove nat_cmp_total (from_entries es) k q))
 
-  -- ---- what a map has after one key was put or taken out
+  -- ---- what a map has after one key was put or removed
 
   pub get_put : (m : FinMap nat_cmp X) (k : ℕ) (v : X) (q : ℕ) → get (insert m k v) q ≡ cond (k == q) (Some v) (get m q)
   get_put m k v q = get-insert nat_cmp_total m k v q ∙ ap (λ b. cond b (Some v) (get m q)) (tied k q)

@@ -1,4 +1,4 @@
--- What is found when places are made is what is said of the ends.
+-- What is computed when places are made is what the definitions say of the ends.
 use Rattle.std.proofs.Common.{◌≡◌, ◌==◌, ℕ, ◌+◌, ◌<◌, Bool, true, false, cond, List, [], ◌∷◌, map, filter, position, length, get_or, All, Option, refl, sym, ap, subst, ◌∙◌, arith}
 use Rattle.std.specs.List.{enumerate_from}
 use Rattle.std.proofs.lemmas.List.{length-map}
@@ -20,7 +20,7 @@ map-map : {X Y Z : Type 0} (g : Y → Z) (f : X → Y) (xs : List X) → map g (
 map-map g f [] = refl
 map-map g f (x ∷ xs) = ap (λ l. g (f x) ∷ l) (map-map g f xs)
 
--- the places of mapped elements are those of the elements
+-- the positions of mapped elements are those of the elements
 places-map : {X Y : Type 0} (test : Y → Bool) (f : X → Y) (n : ℕ) (xs : List X)
     → map (λ p. p.0) (filter (λ p. test p.1) (enumerate_from n (map f xs))) ≡ map (λ p. p.0) (filter (λ p. test (f p.1)) (enumerate_from n xs))
 places-map test f n [] = refl

@@ -9,13 +9,13 @@ use Rattle.ic_conntab.specs.Table.{Table, is_past, found, found_in, begun, left,
 use Rattle.ic_conntab.specs.Laws.{BegunIsFound, LeftIsEnded}
 use Rattle.ic_conntab.proofs.Entries.{get_put, get_taken}
 
--- a key of the table's session is found by what its query has
+-- what is found of a key of the table's session, by what its query has
 pub found_here : (t : Table) (key : ConnKey) (of_query : Option (List ConnKey)) → key.session ≡ t.session → get t.live key.query ≡ of_query
     → found t key ≡ found_in t.top of_query key
 found_here t key of_query session is =
     ap (λ b. if b then found_in t.top (get t.live key.query) key else Foreign) (eq-eqb _ _ session) ∙ ap (λ o. found_in t.top o key) is
 
--- what is found of a key rests on its query, and on the greatest id where that isn't live
+-- what is found of a key depends on its query, and, if that isn't live, on the greatest ended number
 same_query : (t u : Table) (key : ConnKey) → u.session ≡ t.session → u.top ≡ t.top → get u.live key.query ≡ get t.live key.query → found u key ≡ found t key
 same_query t u key session top live i = if key.session == session i then found_in (top i) (live i) key else Foreign
 
@@ -23,7 +23,7 @@ live_found : (top other : Option ℕ) (of_query : Option (List ConnKey)) (key : 
 live_found top other None key is = absurd (true≢false (sym is))
 live_found top other (Some keys) key is = refl
 
--- an id is at most the greater of itself and another, and of one that it is at most
+-- a number isn't above the greater of itself and another, nor above the greater of one that it isn't above
 pub past_itself : (top : Option ℕ) (query : ℕ) → is_past (Some (raised top query)) query ≡ true
 past_itself None query = le-leb _ _ (omega arith)
 past_itself (Some top) query = le-leb _ _ (le-max_right top query)

@@ -1,4 +1,4 @@
--- The place of a key is where it stands among its query's connections.
+-- The position of a key is where it is among its query's connections.
 use Rattle.std.proofs.Common.{◌≡◌, ℕ, ◌<◌, cond, nat_lt, List, length, position, slice_get, get_or, Option, None, Some, refl, sym, ap, ◌∙◌, arith}
 use Rattle.std.specs.List.{IsDistinct, position_or_len}
 use Rattle.std.proofs.lemmas.Bool.{le-leb}
@@ -25,7 +25,7 @@ unfolding place_in
 place_in-placed None = refl
 place_in-placed (Some place) = refl
 
--- what is found at a place has it as the position of its key
+-- if a key is found at a position, that is the first position of the key
 position_from_found : (place : Option ℕ) (n : ℕ) → placed place ≡ Here n → place ≡ Some n
 unfolding place_in
 position_from_found place n h = sym (place_in-placed place) ∙ ap place_in h

@@ -1,4 +1,4 @@
--- A motion's receivers rise: places that pass do.
+-- A motion's receivers rise, as positions that pass a test do.
 use Rattle.std.proofs.Common.{◌≡◌, ◌==◌, ℕ, ◌+◌, ◌<◌, ◌≤◌, suc, zero, Bool, true, false, cond, List, [], ◌∷◌, map, filter, length, get_or, subst, arith}
 use Rattle.std.specs.List.{enumerate_from}
 use Rattle.std.specs.List.Sorted.{IsStrictlyIncreasing}

@@ -1,4 +1,4 @@
--- Distinct keys that are put into a set one after another stand in it in their order.
+-- Distinct keys that are put into a set one after another are in it in that order.
 use Rattle.std.proofs.Common.{◌≡◌, ◌||◌, ◌&&◌, Bool, false, List, [], ◌∷◌, ◌++◌, refl, sym, ap, subst, ◌∙◌, if◌then◌else◌, append-nil, append_assoc}
 use Rattle.std.specs.List.{IsDistinct, AllByRecursion, list_any}
 use Rattle.std.proofs.lemmas.Map.Keys.{IsDistinct-head, IsDistinct-tail}
@@ -14,7 +14,7 @@ key_eq-flips a b i =
     && (nat_eq_equiv.symm a.motion b.motion i && (int_eq_equiv.symm a.from b.from i && int_eq_equiv.symm a.to b.to i)))
 
 module _ {K : Type 0} (eq : K → K → Bool) (flips : (x y : K) → eq x y ≡ eq y x) where
-  -- what holds of each holds of the one behind these
+  -- a property of each holds of the one after these
   at_next : (P : K → Type 0) (ks : List K) (x : K) (xs : List K) → AllByRecursion P (ks ++ x ∷ xs) → P x
   at_next P [] x xs h = h.0
   at_next P (k ∷ ks) x xs h = at_next P ks x xs h.1
@@ -25,7 +25,7 @@ module _ {K : Type 0} (eq : K → K → Bool) (flips : (x y : K) → eq x y ≡ 
   not_before (k ∷ ks) x xs h =
       (λ i. (flips x k ∙ at_next (λ y. eq k y ≡ false) ks x xs (IsDistinct-head eq k (ks ++ x ∷ xs) h)) i || not_before ks x xs (IsDistinct-tail eq k (ks ++ x ∷ xs) h) i)
 
-  -- so it goes behind them
+  -- so it goes after them
   insert_next : (ks : List K) (x : K) (xs : List K) → IsDistinct eq (ks ++ x ∷ xs) → insert_key eq ks x ≡ ks ++ x ∷ []
   insert_next ks x xs h = ap (λ b. if b then ks else ks ++ x ∷ []) (not_before ks x xs h)
 

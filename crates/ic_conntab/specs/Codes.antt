@@ -1,4 +1,4 @@
--- A table as a value that numbers and lists give back.
+-- A table coded as numbers and lists, from which it can be decoded.
 use Rattle.std.specs.Prelude.{ℕ, ℤ, List, Option, refl}
 use Rattle.std.specs.Ordering.{nat_cmp}
 use Rattle.std.specs.FinMap.{FinMap, code}

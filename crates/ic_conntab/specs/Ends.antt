@@ -17,33 +17,33 @@ receiving_ends ends = filter (λ e. not e.sending) ends
 
 -- ---- by key
 
--- each element that no earlier one equals, in their order
+-- each element that equals no earlier one, in order
 abbrev pub distinct : {K : Type 0} → (K → K → Bool) → List K → List K
 distinct eq [] = []
 distinct eq (x ∷ xs) = x ∷ filter (λ y. not (eq x y)) (distinct eq xs)
 
--- the keys of the ends, each once, at its first place
+-- the keys of the ends, each once, in the order of their first ends
 unfoldable pub keys_of : List ConnEnd → List ConnKey
 keys_of ends = distinct key_eq (map (λ e. e.key) ends)
 
--- the place among the sending ends of the first that has the key, from 0
+-- the position among the sending ends of the first that has the key, from 0
 unfoldable pub sender_at : List ConnEnd → ConnKey → Option ℕ
 sender_at ends key = position (λ e. key_eq key e.key) (sending_ends ends)
 
--- the place among the receiving ends of the first that has the key, from 0
+-- the position among the receiving ends of the first that has the key, from 0
 unfoldable pub receiver_at : List ConnEnd → ConnKey → Option ℕ
 receiver_at ends key = position (λ e. key_eq key e.key) (receiving_ends ends)
 
 -- ---- by motion
 
--- the motions of the receiving ends, each once, at its first place
+-- the motions of the receiving ends, each once, in the order of their first ends
 unfoldable pub motions_of : List ConnEnd → List ℕ
 motions_of ends = distinct (λ m n. m == n) (map (λ e. e.key.motion) (receiving_ends ends))
 
--- the places of the elements that pass, from 0
+-- the positions of the elements that pass the test, from 0
 abbrev pub places_where : {X : Type 0} → (X → Bool) → List X → List ℕ
 places_where test xs = map (λ p. p.0) (filter (λ p. test p.1) (enumerate_from 0 xs))
 
--- the places among the receiving ends of those of a motion
+-- the positions of a motion's receiving ends among all receiving ends
 unfoldable pub receivers_of : List ConnEnd → ℕ → List ℕ
 receivers_of ends motion = places_where (λ e. e.key.motion == motion) (receiving_ends ends)

@@ -1,4 +1,4 @@
--- What places keep of their ends, so that each look finds it at once.
+-- What a Places keeps of the ends, so that each call finds it in one step.
 use Rattle.std.specs.Prelude.{◌≡◌, ℕ, List, map}
 use Rattle.ic_base.specs.declared.keys.ConnKey.{ConnKey}
 use Rattle.ic_base.specs.declared.keys.ConnEnd.{ConnEnd}
@@ -7,11 +7,11 @@ use Rattle.ic_conntab.specs.declared.slots.Sides.{Sides}
 use Rattle.ic_conntab.specs.Ends.{keys_of, sender_at, receiver_at, motions_of, receivers_of}
 use Rattle.ic_conntab.specs.Slots.{slots_of}
 
--- where the two ends of a key stand
+-- the positions of a key's two ends
 abbrev pub sides_at : List ConnEnd → ConnKey → Sides
 sides_at ends key = record { sender = sender_at ends key; receiver = receiver_at ends key }
 
--- these are the keys, sides, motions, receivers and places of the ends
+-- these are the keys, sides, motions, receivers and slots of the ends
 pub record AreOf (ends : List ConnEnd) (keys : List ConnKey) (sides : List Sides) (motions : List ℕ) (receivers : List (List ℕ)) (order : List Slot) : Type 0 where
   pub keys_are : keys ≡ keys_of ends
   pub sides_are : sides ≡ map (sides_at ends) (keys_of ends)

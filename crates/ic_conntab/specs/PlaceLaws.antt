@@ -1,4 +1,4 @@
--- What follows of where ends stand.
+-- Laws of the positions of ends.
 use Rattle.std.specs.Prelude.{◌≡◌, ◌≢◌, ◌↔◌, ℕ, ◌==◌, true, false, List, map, length, take, slice_get, Contains, Option, None, Some}
 use Rattle.std.specs.List.{IsDistinct, filter_map, range_with_len}
 use Rattle.std.specs.List.Sorted.{IsStrictlyIncreasing}
@@ -11,7 +11,7 @@ use Rattle.ic_conntab.specs.Slots.{slots_of, slot_at, end_at, sender_in, receive
 
 -- ---- by side
 
--- an end sends exactly where it is among the sending ends, and receives exactly where it is among the receiving ones
+-- an end sends exactly if it is among the sending ends, and receives exactly if it is among the receiving ends
 abbrev pub EndsHaveTheirSides : Type 0
 EndsHaveTheirSides =
     (ends : List ConnEnd) (e : ConnEnd)
@@ -20,16 +20,16 @@ EndsHaveTheirSides =
 
 -- ---- by key
 
--- a key is among the keys exactly where an end has it
+-- a key is among the keys exactly if some end has it
 abbrev pub KeysAreOfEnds : Type 0
 KeysAreOfEnds = (ends : List ConnEnd) (key : ConnKey) → Contains (keys_of ends) key ↔ ((e : ConnEnd) × Contains ends e × (e.key ≡ key))
 
--- no key stands twice among the keys
+-- the keys are distinct
 abbrev pub KeysDiffer : Type 0
 KeysDiffer = (ends : List ConnEnd) → IsDistinct key_eq (keys_of ends)
 
--- where a place is found for a key among these ends, the end there has the key, and none is found exactly where none has
--- it; where their keys differ, each end is found by its key
+-- If a position is found for a key, the end at it has the key. No position is found exactly if no end has the key. If
+-- the keys differ, each end is found by its key.
 pub record AreFound (of_side : List ConnEnd) (found : ConnKey → Option ℕ) : Type 0 where
   pub some : (key : ConnKey) (place : ℕ) → found key ≡ Some place → (e : ConnEnd) × (slice_get of_side place ≡ Some e) × (e.key ≡ key)
   pub none : (key : ConnKey) → (found key ≡ None) ↔ ((e : ConnEnd) → Contains of_side e → e.key ≢ key)
@@ -41,29 +41,29 @@ SidesAreFound = (ends : List ConnEnd) → AreFound (sending_ends ends) (sender_a
 
 -- ---- by motion
 
--- a motion is among the motions exactly where a receiving end has it
+-- a motion is among the motions exactly if some receiving end has it
 abbrev pub MotionsAreReceived : Type 0
 MotionsAreReceived =
     (ends : List ConnEnd) (motion : ℕ) → Contains (motions_of ends) motion ↔ ((e : ConnEnd) × Contains (receiving_ends ends) e × (e.key.motion ≡ motion))
 
--- no motion stands twice among the motions
+-- the motions are distinct
 abbrev pub MotionsDiffer : Type 0
 MotionsDiffer = (ends : List ConnEnd) → IsDistinct (λ m n. m == n) (motions_of ends)
 
--- a place is among a motion's receivers exactly where the receiving end there has the motion
+-- a position is among a motion's receivers exactly if the receiving end at it has the motion
 abbrev pub ReceiversHaveTheMotion : Type 0
 ReceiversHaveTheMotion =
     (ends : List ConnEnd) (motion place : ℕ)
     → Contains (receivers_of ends motion) place ↔ ((e : ConnEnd) × (slice_get (receiving_ends ends) place ≡ Some e) × (e.key.motion ≡ motion))
 
--- a motion's receivers rise
+-- the positions of a motion's receivers rise
 abbrev pub ReceiversRise : Type 0
 ReceiversRise = (ends : List ConnEnd) (motion : ℕ) → IsStrictlyIncreasing (receivers_of ends motion)
 
 -- ---- in order
 
--- there is a slot for each end; the slot of an end is its place among those of its side, which is how many of its side
--- stand before it, and the end at the slot is that end
+-- There is a slot for each end. It counts the ends of the same side that come before this end, and the end in the slot
+-- is this end.
 abbrev pub SlotsAreTheirEnds : Type 0
 SlotsAreTheirEnds =
     (ends : List ConnEnd)
@@ -72,7 +72,7 @@ SlotsAreTheirEnds =
     → slice_get (slots_of ends) i ≡ Some (slot_at e.sending (length (sending_ends (take i ends))) (length (receiving_ends (take i ends)))))
     × ((slot : Slot) (i : ℕ) → slice_get (slots_of ends) i ≡ Some slot → (e : ConnEnd) × (slice_get ends i ≡ Some e) × (end_at ends slot ≡ Some e))
 
--- the slots come to each sending end once, in their order, and to each receiving one
+-- the slots name each sending end once, in order, and likewise each receiving end
 abbrev pub SlotsComeOnce : Type 0
 SlotsComeOnce =
     (ends : List ConnEnd)

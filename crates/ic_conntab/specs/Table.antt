@@ -9,7 +9,8 @@ use Rattle.ic_conntab.specs.declared.answer.Find.TheVariants.{Foreign, Here, End
 
 -- ---- a table
 
--- its session, the greatest id that has ended if any has, and the live queries, each with its connections in order
+-- its session, the greatest query number that has ended, if any has, and the live queries, each with its connections in
+-- order
 pub record Table : Type 0 where
   pub session : ℕ
   pub top : Option ℕ
@@ -23,27 +24,27 @@ fresh session = record { session = session; top = None; live = empty }
 abbrev pub IsLive : Table → ℕ → Type 0
 IsLive t query = IsSome (get t.live query)
 
--- this is the greatest id that has ended, and the query's isn't above it
+-- this is the greatest query number that has ended, and the query's number isn't above it
 abbrev pub IsOld : Table → ℕ → ℕ → Type 0
 IsOld t query top = (t.top ≡ Some top) × (query ≤ top)
 
--- is an id at most the greatest that has ended
+-- whether a number isn't above the greatest that has ended
 abbrev pub is_past : Option ℕ → ℕ → Bool
 is_past None query = false
 is_past (Some top) query = nat_le query top
 
--- a query that isn't live and whose id is above all that have ended
+-- the query isn't live, and its number is above all that have ended
 abbrev pub MayBegin : Table → ℕ → Type 0
 MayBegin t query = (is_past t.top query ≡ false) × (get t.live query ≡ None)
 
 -- ---- what is found
 
--- a key of a live query: at its place, from 0, or a stranger's
+-- what is found of a key of a live query: its position, from 0, or Foreign if it isn't there
 abbrev pub placed : Option ℕ → Find
 placed (Some place) = Here place
 placed None = Foreign
 
--- a key of the table's session, where its query is live with these connections or isn't live
+-- what is found of a key of the table's session, if its query is live with these connections, or isn't live
 abbrev pub found_in : Option ℕ → Option (List ConnKey) → ConnKey → Find
 found_in top (Some keys) key = placed (position (key_eq key) keys)
 found_in top None key = if is_past top key.query then Ended else NotBegun
@@ -54,15 +55,15 @@ found t key = if key.session == t.session then found_in t.top (get t.live key.qu
 
 -- ---- queries begin and end
 
--- one more query is live
+-- the table with one more live query
 abbrev pub begun : Table → ℕ → List ConnKey → Table
 begun t query keys = record { session = t.session; top = t.top; live = insert t.live query keys }
 
--- the greater of the greatest that has ended, if any has, and one more
+-- the greater of a number and the greatest that has ended, if any has
 abbrev pub raised : Option ℕ → ℕ → ℕ
 raised None query = query
 raised (Some top) query = max top query
 
--- the query isn't live any more, and has ended
+-- the table in which the query isn't live any more, and has ended
 abbrev pub left : Table → ℕ → Table
 left t query = record { session = t.session; top = Some (raised t.top query); live = remove t.live query }

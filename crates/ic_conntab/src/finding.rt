@@ -1,4 +1,4 @@
-// What is found out of ends when a query begins.
+// What is computed from a query's ends when the query begins.
 ghost use Rattle.std.specs.Prelude.{◌≡◌, ◌==◌, ℕ, map, filter, position, not, cond, None, Some, IfOk, OnOk};
 ghost use Rattle.std.specs.HashMap.{get};
 ghost use Rattle.ic_base.specs.Keys.{key_eq};
@@ -45,7 +45,7 @@ pub fn keys_in(alloc: Global, ends: &[ConnEnd]) -> Result<IndexSet<ConnKey>, All
     Ok(keys)
 }
 
-/// The motions of keys, each once.
+/// The motions of these keys, each once.
 pub fn motions_in(alloc: Global, keys: &[ConnKey]) -> Result<IndexSet<u32>, AllocError>
     ensures { IfOk result (λ s. s.keys ≡ distinct (λ m n. m == n) (map (λ k. k.motion) keys.now)) }
 {
@@ -56,7 +56,7 @@ pub fn motions_in(alloc: Global, keys: &[ConnKey]) -> Result<IndexSet<u32>, Allo
     Ok(motions)
 }
 
-/// The first place of each key. Hashes each key twice.
+/// The first position of each key. Hashes each key twice.
 pub fn first_places(alloc: Global, keys: &[ConnKey]) -> Result<HashMap<ConnKey, usize>, AllocError>
     ensures { IfOk result (λ m. (key : ConnKey) → get key_eq m key ≡ position (key_eq key) keys.now) }
 {
@@ -67,7 +67,7 @@ pub fn first_places(alloc: Global, keys: &[ConnKey]) -> Result<HashMap<ConnKey, 
     Ok(places)
 }
 
-/// Puts a key's place, unless it has one.
+/// Puts a key's position, unless the key has one already.
 fn put_first(
     places: &mut HashMap<ConnKey, usize>,
     key: &ConnKey,
@@ -83,7 +83,7 @@ fn put_first(
     Ok(())
 }
 
-/// Where the ends of each key stand.
+/// For each key, the positions of its two ends.
 pub fn sides_in(
     alloc: Global,
     keys: &[ConnKey],
@@ -102,7 +102,7 @@ pub fn sides_in(
     Ok(sides)
 }
 
-/// The places of the keys of a motion.
+/// The positions of the keys of one motion.
 fn places_of(alloc: Global, keys: &[ConnKey], motion: u32) -> Result<Vec<usize>, AllocError>
     ensures { IfOk result (λ v. v.items ≡ places_where (λ k. k.motion == motion) keys.now) }
 {
@@ -113,7 +113,7 @@ fn places_of(alloc: Global, keys: &[ConnKey], motion: u32) -> Result<Vec<usize>,
         .collect(alloc)
 }
 
-/// The places of the keys of each motion. Walks the keys once for each.
+/// For each motion, the positions of its keys. Walks the keys once for each motion.
 pub fn rows_in(alloc: Global, keys: &[ConnKey], motions: &[u32]) -> Result<Vec<Row>, AllocError>
     ensures { IfOk result (λ v. v.items ≡ map (λ m. places_where (λ k. k.motion == m) keys.now) motions.now) }
 {
@@ -124,7 +124,7 @@ pub fn rows_in(alloc: Global, keys: &[ConnKey], motions: &[u32]) -> Result<Vec<R
     Ok(rows)
 }
 
-/// The place of each end among those of its side.
+/// For each end, its position among those of its side.
 pub fn slots_in(alloc: Global, ends: &[ConnEnd]) -> Result<Vec<Slot>, AllocError>
     ensures { IfOk result (λ v. v.items ≡ slots_of ends.now) }
 {

@@ -24,7 +24,7 @@ impl Model for Keys {
 }
 
 impl Keys {
-    /// Copies each key once.
+    /// Copies each key once. Fails only if out of memory.
     pub fn new(alloc: Global, keys: &[ConnKey]) -> Result<Keys, AllocError>
         requires distinct { IsDistinct key_eq keys.now }
         ensures { IfOk result (λ p. p ≡ keys.now) }
@@ -34,7 +34,7 @@ impl Keys {
         Ok(Keys { keys: all })
     }
 
-    /// The place of a key, from 0. Walks no list: the key is hashed.
+    /// The position of a key, from 0, or `None`. One look-up by hash.
     pub fn place(&self, key: &ConnKey) -> Option<usize>
         ensures { result ≡ position (key_eq key.now) self.now }
     {

@@ -1,12 +1,13 @@
-// Laws of tables, each carried by a function that has nothing to run.
+// Laws of tables. Each is the contract of a function with an empty body.
 ghost use Rattle.ic_conntab.specs.Laws.{PlaceIsItsOwn, BegunIsFound, LeftIsEnded, TopNeverFalls, EndedForGood};
 
-/// A key that is found at a place stands there among its query's connections, and is found where it stands.
+/// If a key is found at a position, it is there among its query's connections. If these are distinct, each is found at
+/// its position.
 pub fn place_is_its_own()
     ensures { PlaceIsItsOwn }
 {}
 
-/// After `begin` the query's own keys are at their places, and every other key is found as before.
+/// After `begin` the query's own keys are found at their positions, and every other key is found as before.
 pub fn begun_is_found()
     ensures { BegunIsFound }
 {}
@@ -16,12 +17,12 @@ pub fn left_is_ended()
     ensures { LeftIsEnded }
 {}
 
-/// The greatest id that has ended never falls, however queries begin and are left.
+/// The greatest query number that has ended never falls, however queries begin and are left.
 pub fn top_never_falls()
     ensures { TopNeverFalls }
 {}
 
-/// A connection that has ended stays so, however queries begin and are left.
+/// A connection that has ended stays ended, however queries begin and are left.
 pub fn ended_for_good()
     ensures { EndedForGood }
 {}

@@ -1,15 +1,16 @@
-//! Which connections a segment has now, which queries have ended, and where the ends of a live query's connections
-//! stand. No packet, no clock and no state of a connection.
+//! Which connections a segment has now, which queries have ended, and an index of a live query's connection ends. No
+//! packet, no clock and no state of a connection.
 //!
-//! A hub keeps one [`ConnTable`] for its session: what a datagram is asked first. `begin` adds a query with its
-//! connections, `leave` takes it out for good, and `find` says of the key in each arriving datagram where its connection
-//! stands. No list of ended queries is kept: ids of queries rise, so the greatest ended one and the live ones tell all.
+//! A hub keeps one [`ConnTable`] for its session and asks it first about each datagram. `begin` adds a query with its
+//! connections, `leave` removes it for good, and `find` says of a datagram's key whether its query is live, and at
+//! which position the connection is. No list of ended queries is kept: query numbers rise, so the greatest ended one
+//! and the live ones are enough.
 //!
-//! For each query the hub makes one [`Places`], of the ends in the order of `begin`, and keeps the ends that send and
-//! those that receive in two lists. It asks `sides` for each datagram, `motion` and `receivers` for each call that takes
-//! rows, and walks `order` for what all ends do. Nothing of it changes while the query is live.
+//! For each query the hub makes one [`Places`] of the ends, in the order of `begin`, and keeps the sending and the
+//! receiving ends in two lists. It asks `sides` for each datagram, and `motion` and `receivers` for each call that
+//! takes rows; it walks `order` for what all ends do. A `Places` never changes.
 //!
-//! Below: `ic_base` for keys, ends and refusals, the kit's `indexmap`. Above: the hub of a segment.
+//! Below: `ic_base` for keys, ends and refusals, and the kit's `indexmap`. Above: the hub of a segment.
 #![tactic(auto)]
 
 mod answer;

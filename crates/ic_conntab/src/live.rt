@@ -7,10 +7,10 @@ use std::alloc::{AllocError, Global};
 use std::collections::HashMap;
 use std::marker::Model;
 
-/// How many queries there is room for from the start. A session runs few at a time; more take their room as they begin.
+/// How many queries a new table has room for. A session runs few at a time; room for more is taken as they begin.
 const QUERIES: usize = 4;
 
-/// The connections of each live query, seen as the map from its id to their list.
+/// The connections of each live query, seen as a map from the query's number to their list.
 #[derive(Drop)]
 pub struct Live {
     queries: HashMap<u32, Keys>,
@@ -42,14 +42,14 @@ impl Live {
         })
     }
 
-    /// The connections of a live query.
+    /// The connections of a query, if it is live.
     pub fn get(&self, query: u32) -> Option<&Keys>
         ensures { option_copied result ≡ map.get self.now query }
     {
         self.queries.get(&query)
     }
 
-    /// Puts a query's connections.
+    /// Adds a query with its connections.
     pub fn insert(&mut self, query: u32, keys: Keys) -> Result<(), AllocError>
         ensures ok { OnOk result (self.new ≡ map.insert self.old query keys) }
         ensures err { OnErr result (self.new ≡ self.old) }
@@ -58,7 +58,7 @@ impl Live {
         Ok(())
     }
 
-    /// Takes a query out, and says whether it was there.
+    /// Removes a query, and says whether it was there.
     pub fn remove(&mut self, query: u32) -> bool
         ensures was { result ≡ is_some (map.get self.old query) }
         ensures left { self.new ≡ map.remove self.old query }

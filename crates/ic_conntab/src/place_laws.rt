@@ -1,7 +1,7 @@
-// Laws of places, each carried by a function that has nothing to run.
+// Laws of places. Each is the contract of a function with an empty body.
 ghost use Rattle.ic_conntab.specs.PlaceLaws.{EndsHaveTheirSides, KeysAreOfEnds, KeysDiffer, SidesAreFound, MotionsAreReceived, MotionsDiffer, ReceiversHaveTheMotion, ReceiversRise, SlotsAreTheirEnds, SlotsComeOnce};
 
-/// Each end is among those of its side, and of no other.
+/// Each end is among those of its own side, and not among those of the other.
 pub fn ends_have_their_sides()
     ensures { EndsHaveTheirSides }
 {}
@@ -12,7 +12,7 @@ pub fn keys_are_of_ends()
     ensures distinct { KeysDiffer }
 {}
 
-/// The end at a key's place has the key, and a key has no place exactly where no end of the side has it.
+/// The end at a key's position has that key. A key has no position exactly if no end of the side has it.
 pub fn sides_are_found()
     ensures { SidesAreFound }
 {}
@@ -23,13 +23,13 @@ pub fn motions_are_received()
     ensures distinct { MotionsDiffer }
 {}
 
-/// The receivers of a motion are the places of the receiving ends that have it, rising.
+/// The receivers of a motion are the positions of the receiving ends that have it, in rising order.
 pub fn receivers_have_the_motion()
     ensures has { ReceiversHaveTheMotion }
     ensures rise { ReceiversRise }
 {}
 
-/// Who walks the slots in order comes to each end once, and to the end that stands there in the order of the ends.
+/// Walking the slots in order meets each end once, in the order of the ends.
 pub fn slots_are_their_ends()
     ensures ends { SlotsAreTheirEnds }
     ensures once { SlotsComeOnce }

@@ -1,4 +1,4 @@
-// Where the ends stand.
+// The index of a query's ends.
 ghost use Rattle.std.specs.Prelude.{◌≡◌, ◌==◌, ℕ, ◌<◌, length, position, slice_get, Some, All, IfSome, IfOk};
 ghost use Rattle.std.specs.List.{IsDistinct};
 ghost use Rattle.ic_base.specs.Keys.{key_eq};
@@ -16,19 +16,19 @@ use indexmap::IndexSet;
 use std::alloc::{AllocError, Global};
 use std::marker::Model;
 
-/// Where the ends of a query's connections stand, seen as the list of the ends.
+/// An index of one query's connection ends, by key and side and by motion. Seen as the list of the ends.
 ///
-/// It is made once and only looked at: [`sides`](Places::sides) for the place of a key, as a datagram's key is found;
-/// [`motion`](Places::motion) and [`receivers`](Places::receivers) for a call that takes rows of a motion;
-/// [`order`](Places::order) for what all ends do in their order.
+/// It is made once and then only read: [`sides`](Places::sides) for the key of a datagram; [`motion`](Places::motion)
+/// and [`receivers`](Places::receivers) for a call that takes rows of a motion; [`order`](Places::order) for what all
+/// ends do in their order.
 #[derive(Drop)]
 pub struct Places {
     ends: Vec<ConnEnd>,
     keys: IndexSet<ConnKey>,
-    /// For each key, where its ends stand.
+    /// For each key, the positions of its ends.
     sides: Vec<Sides>,
     motions: IndexSet<u32>,
-    /// For each motion, its receiving ends.
+    /// For each motion, the positions of its receiving ends.
     rows: Vec<Row>,
     order: Vec<Slot>,
 }
@@ -46,8 +46,8 @@ impl Model for Places {
 }
 
 impl Places {
-    /// Hashes each end's key a few times, and walks the receiving ends once for each motion. No order or number of ends
-    /// is asked for: where several ends of a side have one key, the first of them is found.
+    /// Hashes each end's key a few times, and walks the receiving ends once for each motion. The ends may come in any
+    /// order and number. If several ends of a side have the same key, the first is found. Fails only if out of memory.
     pub fn new(alloc: Global, ends: &[ConnEnd]) -> Result<Places, AllocError>
         ensures { IfOk result (λ p. p ≡ ends.now) }
     {
@@ -70,7 +70,7 @@ impl Places {
         })
     }
 
-    /// The ends, in their order.
+    /// The ends, in the order in which they were given.
     pub fn ends(&self) -> &[ConnEnd]
         ensures { result.now ≡ self.now }
     {
@@ -85,7 +85,7 @@ impl Places {
         self.keys.as_slice()
     }
 
-    /// Where the ends of the key at this place of `keys` stand. One look.
+    /// The positions of the ends of the key at this position of `keys`. Takes one step.
     pub fn sides(&self, place: usize) -> Sides
         requires { place < length (keys_of self.now) }
         ensures sender { (key : ConnKey) → slice_get (keys_of self.now) place ≡ Some key → result.sender ≡ sender_at self.now key }
@@ -96,8 +96,8 @@ impl Places {
         self.sides[place]
     }
 
-    /// The place of a motion among those of the receiving ends, and `None` exactly where no receiving end has it. One
-    /// look-up by hash.
+    /// The position of a motion among those of the receiving ends, or `None` if no receiving end has it. One look-up by
+    /// hash.
     pub fn motion(&self, number: u32) -> Option<usize>
         ensures value { result ≡ position (λ m. m == number) (motions_of self.now) }
         ensures within { IfSome result (λ i. i < length (motions_of self.now)) }
@@ -105,14 +105,14 @@ impl Places {
         self.motions.get_index_of(&number)
     }
 
-    /// How many motions the receiving ends have.
+    /// How many different motions the receiving ends have.
     pub fn motions(&self) -> usize
         ensures { result ≡ length (motions_of self.now) }
     {
         self.motions.len()
     }
 
-    /// The places of a motion's receiving ends among all receiving ones, rising. One look.
+    /// The positions of a motion's receiving ends among all receiving ends, in rising order. Takes one step.
     pub fn receivers(&self, motion: usize) -> &[usize]
         requires { motion < length (motions_of self.now) }
         ensures value { (number : ℕ) → slice_get (motions_of self.now) motion ≡ Some number → result.now ≡ receivers_of self.now number }
@@ -121,7 +121,7 @@ impl Places {
         self.rows[motion].as_slice()
     }
 
-    /// Each end's place among those of its side, in the order of the ends.
+    /// Each end's position among those of its side, in the order of the ends.
     pub fn order(&self) -> &[Slot]
         ensures value { result.now ≡ slots_of self.now }
         ensures within { All (IsWithin self.now) result.now }

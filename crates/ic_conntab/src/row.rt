@@ -3,7 +3,7 @@ ghost use Rattle.std.specs.Prelude.{◌≡◌};
 
 use std::marker::Model;
 
-/// Places of ends, seen as their list.
+/// Positions of ends, seen as their list.
 #[derive(Drop)]
 pub struct Row {
     items: Vec<usize>,

@@ -1,18 +1,18 @@
-// What is said of ends.
+// Positions of ends.
 
-/// Where the two ends of a connection stand, each among those of its side, from 0. Of a segment's connection to itself
-/// both may be there.
+/// The positions of the two ends of a connection, each among those of its side, from 0. Both are there only for a
+/// connection from a segment to itself.
 #[derive(Clone, Copy, Debug, PartialEq, Eq)]
 pub struct Sides {
     pub sender: Option<usize>,
     pub receiver: Option<usize>,
 }
 
-/// Where one end stands, from 0.
+/// The position of one end, from 0.
 #[derive(Clone, Copy, Debug, PartialEq, Eq)]
 pub enum Slot {
-    /// Among those that send.
+    /// Among the sending ends.
     Sender(usize),
-    /// Among those that receive.
+    /// Among the receiving ends.
     Receiver(usize),
 }

@@ -12,14 +12,15 @@ use ic_base::{BeginNo, ConnKey};
 use std::alloc::{AllocError, Global};
 use std::marker::Model;
 
-/// The connections of a segment in one session, by query: a demultiplexing table, Greenplum's connection hash table.
+/// The connections of a segment in one session, by query: a demultiplexing table (Greenplum: connection hash table).
 ///
-/// Seen as its session, the greatest id that has ended if any has, and the live queries with their connections. Several
-/// queries may be live at once, and one that is live may be below the greatest that has ended.
+/// Seen as its session, the greatest query number that has ended, if any has, and the live queries with their
+/// connections. Several queries may be live at once, and the number of a live one may be below the greatest that has
+/// ended.
 #[derive(Drop)]
 pub struct ConnTable {
     session: u32,
-    /// The greatest id that has ended.
+    /// The greatest query number that has ended.
     top: Option<u32>,
     live: Live,
 }
@@ -38,7 +39,8 @@ impl Model for ConnTable {
 impl ConnTable {
     ghost use Rattle.ic_conntab.specs.Table.{fresh, begun, left, found, IsLive, IsOld, MayBegin};
 
-    /// A table of this session, of which no query has begun. Takes room for a few queries at once.
+    /// A table of this session, in which no query has begun. Allocates room for a few queries. Fails only if out of
+    /// memory.
     pub fn new(alloc: Global, session: u32) -> Result<ConnTable, AllocError>
         ensures { IfOk result (λ t. t ≡ fresh session) }
     {
@@ -49,8 +51,8 @@ impl ConnTable {
         })
     }
 
-    /// Begins a query with these connections, which are to be distinct and of this session and query; others are never
-    /// found. Their places are counted from 0. Copies and hashes each key once.
+    /// Begins a query with these connections, which get the positions from 0. They must be distinct. Keys of another
+    /// session or query are never found. Copies and hashes each key once. `Old` and `Twice` are the caller's doing.
     pub fn begin(&mut self, alloc: Global, query: u32, keys: &[ConnKey]) -> Result<(), BeginNo>
         requires distinct { IsDistinct key_eq keys.now }
         ensures ok { OnOk result (MayBegin self.old query × (self.new ≡ begun self.old query keys.now)) }
@@ -75,7 +77,8 @@ impl ConnTable {
         }
     }
 
-    /// What the table says of a connection. Two look-ups by hash, however many connections there are. Takes no memory.
+    /// What the table says of a connection. At most two look-ups by hash, however many connections there are. Takes no
+    /// memory.
     pub fn find(&self, key: &ConnKey) -> Find
         ensures { result ≡ found self.now key.now }
     {
@@ -97,7 +100,8 @@ impl ConnTable {
         }
     }
 
-    /// Ends a query: its connections are gone, and its id never begins again. Takes no memory.
+    /// Ends a query: its connections are removed, and its number never begins again. Takes no memory. `NotLive` is the
+    /// caller's doing.
     pub fn leave(&mut self, query: u32) -> Result<(), NotLive>
         ensures ok { OnOk result (IsLive self.old query × (self.new ≡ left self.old query)) }
         ensures err { OnErr result ((IsLive self.old query → ⊥) × (self.new ≡ self.old)) }
@@ -110,7 +114,7 @@ impl ConnTable {
     }
 }
 
-/// Whether an id is at most the greatest that has ended, if any has.
+/// Whether a query number isn't above the greatest that has ended, if any has.
 fn is_past(top: Option<u32>, query: u32) -> bool
     ensures { result ≡ is_past top query }
 {

@@ -1,3 +1,3 @@
-// What no clause says: that memory serves.
+// What no clause says: that the calls which allocate succeed when there is memory.
 mod places;
 mod table;

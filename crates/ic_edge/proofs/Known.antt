@@ -15,7 +15,7 @@ Appends-trans (Some x) (Some y) (Some z) bs cs p q = q ∙ ap (λ l. l ++ cs) p 
 pub Appends-more : (a b c : Option (List ℕ)) (xs : List ℕ) (n m : ℕ) → Appends a b (take n xs) → Appends b c (take m (drop n xs)) → Appends a c (take (n + m) xs)
 Appends-more a b c xs n m p q = subst (Appends a c) (sym (take-add n m xs)) (Appends-trans a b c _ _ p q)
 
--- what was appended stays so where a later call changes nothing
+-- what was appended stays appended if a later call changes nothing
 pub Appends-kept : (a b c : Option (List ℕ)) (bs : List ℕ) → Appends a b bs → Keeps b c → Appends a c bs
 Appends-kept None b c bs p q = tt
 Appends-kept (Some x) None c bs p q = absurd p
@@ -29,7 +29,7 @@ Consumes-trans (Some x) None c bs cs p q = absurd p
 Consumes-trans (Some x) (Some y) None bs cs p q = absurd q
 Consumes-trans (Some x) (Some y) (Some z) bs cs p q = p ∙ ap (λ l. bs ++ l) q ∙ sym (append_assoc bs cs z)
 
--- a fact that holds anyway holds where there is an error
+-- a fact that always holds also holds if there is an error
 pub Err-given : {T E P : Type 0} (r : Result T E) → P → OnErr r P
 Err-given (Ok v) p = tt
 Err-given (Err e) p = p

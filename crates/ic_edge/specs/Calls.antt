@@ -1,9 +1,9 @@
--- The calls of an object in memory, of which some are to fail.
+-- The calls of a source or sink in memory, some of which are to fail.
 use Rattle.std.specs.Prelude.{◌≡◌, ℕ, ◌+◌, ◌<◌, List, length, Any, None, Ok, Err, Result}
 use Rattle.ic_edge.specs.Causes.{one_more}
 use Rattle.ic_edge.specs.declared.fails.Fail.{Fail}
 
--- the call with this number, from 1, is to fail: the list has it, for no worker
+-- the list says that the object's call with this number, from 1, is to fail
 abbrev pub IsListed : ℕ → List Fail → Type 0
 IsListed nth fails = Any (λ fail. (fail.worker ≡ None) × (fail.nth ≡ nth)) fails
 
@@ -17,11 +17,11 @@ pub record Calls : Type 0 where
 abbrev pub no_calls : List Fail → Calls
 no_calls fails = record { fails = fails; came = 0; failed = 0 }
 
--- a call that came has failed
+-- a call that was counted has failed
 abbrev pub one_failed : Calls → Calls
 one_failed c = record c { failed = one_more c.failed }
 
--- one call more came, and failed where it was answered by an error
+-- one more call came, and failed if its answer is an error
 abbrev pub after_call : {T E : Type 0} → Result T E → Calls → Calls
 after_call (Ok _) c = record c { came = one_more c.came }
 after_call (Err _) c = record c { came = one_more c.came; failed = one_more c.failed }

@@ -1,4 +1,4 @@
-// The calls of an object in memory.
+// The calls of a source or sink in memory.
 ghost use Rattle.std.specs.Prelude.{◌≡◌, ◌≤◌, IsErr, ◌↔◌};
 ghost use Rattle.ic_edge.specs.Causes.{HasCause};
 ghost use Rattle.ic_edge.specs.Calls.{no_calls, after_call, one_failed, IsNextListed};
@@ -6,7 +6,7 @@ ghost use Rattle.ic_edge.specs.Calls.{no_calls, after_call, one_failed, IsNextLi
 use crate::fails::{Failed, Fails};
 use std::marker::Model;
 
-/// Which calls are to fail, how many came and how many failed. Both counts stand still at their type's end.
+/// Which calls are to fail, how many came and how many failed. Both counts stay at the greatest number of their type.
 #[derive(Drop)]
 pub(crate) struct CallCount {
     fails: Fails,
@@ -39,7 +39,7 @@ impl CallCount {
         self.failed
     }
 
-    /// Counts a call, and its failure where it is to fail.
+    /// Counts a call, and its failure if it is to fail.
     pub(crate) fn begin(&mut self) -> Result<(), Failed>
         ensures listed { IsErr result ↔ IsNextListed self.old }
         ensures calls { self.new ≡ after_call result self.old }
@@ -52,7 +52,7 @@ impl CallCount {
         Ok(())
     }
 
-    /// Counts the failure of a call that was counted.
+    /// Counts the failure of a call that was counted already.
     pub(crate) fn fail(&mut self) -> Failed
         ensures calls { self.new ≡ one_failed self.old }
         ensures later { self.old.failed ≤ self.new.failed }

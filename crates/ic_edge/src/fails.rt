@@ -4,11 +4,12 @@ ghost use Rattle.ic_edge.specs.Calls.{IsListed};
 
 use std::marker::Model;
 
-/// A call to the outside failed. It's the outside's doing, and the object has counted it.
+/// A call to the outside failed: the outside's doing. The object has counted it.
 #[derive(Clone, Copy, Debug, PartialEq, Eq)]
 pub struct Failed;
 
-/// The call with this number, from 1, fails: a call of the object itself where no worker is named.
+/// The call with this number, from 1, is to fail. If a worker is named, it is the worker's call; otherwise the
+/// object's.
 #[derive(Clone, Copy, Debug, PartialEq, Eq)]
 pub struct Fail {
     pub worker: Option<u32>,
@@ -37,7 +38,7 @@ impl Fails {
         Fails { items }
     }
 
-    /// Whether the call with this number, from 1, is to fail. Entries of a worker don't speak of it.
+    /// Whether the object's call with this number, from 1, is to fail. Entries that name a worker don't matter here.
     pub fn has(&self, nth: u64) -> bool
         ensures { IsTrue result ↔ IsListed nth self.now }
     {

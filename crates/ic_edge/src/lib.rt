@@ -1,8 +1,8 @@
-//! The bytes that come from outside and go there, as traits. No file, no socket and no clock.
+//! The bytes that come in from outside and go out, as traits. No file, no socket and no clock.
 //!
-//! A caller takes a `Source` and a `Sink` by bound. The program hands in the forms over std's reader and writer,
-//! tests those in memory, of which any call can be made to fail. Each object counts its faults, so that an answer
-//! that speaks of a fault has its cause in the count.
+//! A caller takes a `Source` and a `Sink` by bound. The program passes forms over std's reader and writer; tests pass
+//! forms in memory, of which any call can be made to fail. Each object counts its faults, so that every reported fault
+//! has its cause in the count.
 //!
 //! Below: `ic_base`. Above: whatever reads input or writes text.
 #![tactic(auto)]

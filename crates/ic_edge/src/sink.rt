@@ -1,4 +1,4 @@
-// Where bytes go.
+// Output: where bytes go.
 ghost use Rattle.std.specs.Prelude.{◌≡◌, ℕ, ◌+◌, ◌<◌, ◌≤◌, ◌⊎◌, List, [], Some, None, length, IfOk, OnErr, IsErr, IsOkAnd};
 ghost use Rattle.std.specs.declared.option.Option.{Option};
 ghost use Rattle.std.specs.Io.{WritesAtMost};
@@ -14,18 +14,18 @@ use std::marker::Model;
 
 /// A writer that counts its faults.
 pub trait Sink {
-    /// The bytes that it has taken, where it tells them.
+    /// The bytes that it has taken, if its contract exposes them.
     ghost wrote: { Self → Option (List ℕ) };
 
-    /// How often it has failed. It never falls, and stands still at its type's end.
+    /// A count that each failure raises. It never falls, and stays at the greatest number of its type.
     ghost count: { Self → ℕ };
 
-    /// How often it has failed.
+    /// The count of its failures.
     fn faults(&self) -> u64
         ensures { result ≡ count self.now };
 
-    /// Takes a front of the piece and says how many bytes. 0 comes for an empty piece alone: where nothing of
-    /// another piece is taken, it fails. Where it fails, nothing was taken.
+    /// Takes some bytes from the front of the piece and says how many. 0 means that the piece is empty: if nothing can
+    /// be taken of another piece, it fails. If it fails, nothing was taken.
     fn write(&mut self, piece: &[u8]) -> Result<usize, Failed>
         ensures bound { WritesAtMost result piece.now }
         ensures some { IfOk result (λ n. n ≡ 0 → piece.now ≡ []) }
@@ -33,8 +33,8 @@ pub trait Sink {
         ensures cause { HasCause (count self.old) (count self.new) result };
 }
 
-/// A sink in memory, of which some writes fail. A write takes the whole piece, and fails where it isn't to
-/// only for want of memory. It asks for memory where the piece is longer than the room that is left.
+/// A sink in memory that can be made to fail. A write takes the whole piece. Unless it is to fail, it fails only if out
+/// of memory. It allocates only if the piece is longer than the room that is left.
 #[derive(Drop)]
 pub struct MemSink {
     bytes: Vec<u8>,
@@ -51,10 +51,10 @@ impl Model for MemSink {
 }
 
 impl MemSink {
-    /// The room in bytes that a new sink takes: a page, which most texts of tests don't pass.
+    /// The room of a new sink in bytes: one page, enough for most texts of tests.
     pub const ROOM: usize = 4096;
 
-    /// A sink that has taken nothing, with room for `ROOM` bytes.
+    /// A sink that has taken nothing, with room for `ROOM` bytes. Fails only if out of memory.
     pub fn new(alloc: Global, fails: Fails) -> Result<MemSink, AllocError>
         ensures wrote { IfOk result (λ s. s.wrote ≡ []) }
         ensures room { IfOk result (λ s. s.room ≡ Self.ROOM) }
@@ -66,7 +66,7 @@ impl MemSink {
         })
     }
 
-    /// What it has taken.
+    /// The bytes that it has taken.
     pub fn bytes(&self) -> &[u8]
         ensures { result.now ≡ self.now.wrote }
     {
@@ -102,7 +102,7 @@ impl Sink for MemSink {
     }
 }
 
-/// A sink that takes every byte and keeps none.
+/// A sink that takes every byte and keeps none. It never fails.
 #[derive(Clone, Copy, Debug)]
 pub struct SureSink;
 
@@ -132,7 +132,7 @@ impl Sink for SureSink {
     }
 }
 
-/// Any writer of std. It tells what it took where the writer does. It doesn't flush: `into_inner` gives the
+/// Any writer of std. Its contract exposes the bytes if the writer's does. It doesn't flush; `into_inner` gives the
 /// writer back for that.
 #[derive(Drop)]
 pub struct StdSink<W: Write> {

@@ -1,4 +1,4 @@
-// Where bytes come from.
+// Input: where bytes come from.
 ghost use Rattle.std.specs.Prelude.{◌≡◌, ℕ, ◌<◌, ◌≤◌, ◌↔◌, min, List, [], Some, None, length, take, drop, IfOk, IsErr};
 ghost use Rattle.std.specs.declared.option.Option.{Option};
 ghost use Rattle.std.specs.Io.{ReadsAtMost};
@@ -14,25 +14,25 @@ use std::marker::Model;
 
 /// A reader that counts its faults.
 pub trait Source {
-    /// The bytes that are left, where it tells them.
+    /// The bytes that are left, if its contract exposes them.
     ghost left: { Self → Option (List ℕ) };
 
-    /// How often it has failed. It never falls, and stands still at its type's end.
+    /// A count that each failure raises. It never falls, and stays at the greatest number of its type.
     ghost count: { Self → ℕ };
 
-    /// How often it has failed.
+    /// The count of its failures.
     fn faults(&self) -> u64
         ensures { result ≡ count self.now };
 
-    /// Puts the next bytes in front of `buf` and says how many. 0 for a buffer that isn't empty means the end.
-    /// Where it fails, no byte is lost.
+    /// Reads the next bytes into the front of `buf` and says how many. For a buffer that isn't empty, 0 means the end.
+    /// If it fails, no byte is lost.
     fn read(&mut self, buf: &mut [u8]) -> Result<usize, Failed>
         ensures bound { ReadsAtMost result buf.new }
         ensures bytes { ReadConsumes (left self.old) (left self.new) result buf.new }
         ensures cause { HasCause (count self.old) (count self.new) result };
 }
 
-/// Copies the front of what is left into the buffer, as much as both have.
+/// Copies the front of what is left into the buffer, as much as fits.
 fn copy_front(left: &[u8], buf: &mut [u8]) -> usize
     ensures most { result ≡ min (length left.now) (length buf.new) }
     ensures front { take result buf.new ≡ take result left.now }
@@ -46,7 +46,7 @@ fn copy_front(left: &[u8], buf: &mut [u8]) -> usize
     n
 }
 
-/// Bytes of which the first `at` were read.
+/// Bytes, of which the first `at` were read.
 #[derive(Drop)]
 struct Cursor {
     bytes: Bytes,
@@ -82,7 +82,7 @@ impl Cursor {
     }
 }
 
-/// Bytes in memory, of which some reads fail. A read gives as many bytes as the buffer takes.
+/// A source in memory that can be made to fail. A read gives as many bytes as the buffer takes.
 #[derive(Drop)]
 pub struct MemSource {
     left: Cursor,
@@ -131,7 +131,7 @@ impl Source for MemSource {
     }
 }
 
-/// Bytes in memory that are always read. A read gives as many bytes as the buffer takes.
+/// A source in memory that never fails. A read gives as many bytes as the buffer takes.
 #[derive(Drop)]
 pub struct SureSource {
     left: Cursor,
@@ -174,7 +174,7 @@ impl Source for SureSource {
     }
 }
 
-/// Any reader of std. It tells its bytes where the reader does.
+/// Any reader of std. Its contract exposes the bytes if the reader's does.
 #[derive(Drop)]
 pub struct StdSource<R: Read> {
     inner: R,

@@ -3,7 +3,7 @@ use ic_base::Bytes;
 use std::alloc::{AllocError, Global};
 use std::test::Fail as TestFail;
 
-/// The calls of these numbers fail.
+/// The calls with these numbers fail.
 fn failing(alloc: Global, numbers: &[u32]) -> Result<Fails, AllocError> {
     let mut items = Vec::new(alloc);
     for nth in numbers {

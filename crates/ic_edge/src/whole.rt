@@ -1,4 +1,4 @@
-// A source read to its end.
+// Reading a source to its end.
 ghost use Rattle.std.specs.Prelude.{◌≡◌, ℕ, ◌<◌, ◌≤◌, length, IfOk, OnOk, OnErr, IfSome, IsErrOf, vec_len};
 ghost use Rattle.std.specs.Io.KnownBytes.{IsAtEnd};
 ghost use Rattle.ic_edge.specs.Causes.{Rose, LosesAFront};
@@ -10,11 +10,11 @@ use std::alloc::{AllocError, Global};
 /// Why a source wasn't read to its end.
 #[derive(Clone, Copy, Debug, PartialEq, Eq)]
 pub enum ReadNo {
-    /// The source failed, and counted it.
+    /// The outside: the source failed, and counted it.
     Failed,
-    /// The source gives more bytes than the caller's limit.
+    /// The outside: the source has more bytes than the caller's limit.
     TooLong,
-    /// There was no memory for the bytes or for the buffer.
+    /// This side: out of memory for the bytes or for the buffer.
     Memory,
 }
 
@@ -26,13 +26,14 @@ impl From<AllocError> for ReadNo {
     }
 }
 
-/// The bytes asked for by one read: enough that the cost of a call is small beside that of its bytes.
+/// How many bytes one read asks for: enough that the cost of a call is small beside that of its bytes.
 const PIECE: usize = 65536;
 
-/// All bytes of a source, read to its end, unless they are more than `limit` bytes. A fault before the byte that
-/// passes the limit is `Failed`, and later ones aren't met. After an error the source has lost a front of its bytes.
+/// All bytes of a source, up to its end. The error is `TooLong` if they are more than `limit` bytes. A fault that comes
+/// before the byte beyond the limit is `Failed`; later faults aren't met. An error loses the bytes read so far: the
+/// source goes on after them.
 ///
-/// Takes memory for a buffer of 65536 bytes and for what was read. Its steps are linear in the bytes.
+/// Allocates a buffer of 65536 bytes and room for what was read. The steps are linear in the bytes.
 pub fn read_whole<S: Source>(alloc: Global, source: &mut S, limit: usize) -> Result<Vec<u8>, ReadNo>
     ensures whole { IfOk result (λ v. IfSome (S.left source.old) (λ xs. v.items ≡ xs)) }
     ensures end { OnOk result (IsAtEnd (S.left source.new)) }
@@ -46,14 +47,14 @@ pub fn read_whole<S: Source>(alloc: Global, source: &mut S, limit: usize) -> Res
     read_in_pieces(alloc, source, &mut piece, limit)
 }
 
-/// Room for one read.
+/// A buffer for one read.
 fn piece_buffer(alloc: Global) -> Result<Vec<u8>, AllocError>
     ensures { IfOk result (λ v. 0 < vec_len v) }
 {
     vec![in alloc; 0u8; PIECE]
 }
 
-/// The same, by reads into `piece`.
+/// The same, with reads into `piece`.
 fn read_in_pieces<S: Source>(
     alloc: Global,
     source: &mut S,

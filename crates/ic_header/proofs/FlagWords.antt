@@ -39,7 +39,7 @@ flags_of-some n kind e =
     (λ e3. tested n 3 Ack kind _ refl e3 (λ e4. tested n 5 Stop kind _ refl e4 (λ e5. tested n 17 Nak kind _ refl e5
     (λ e6. tested n 33 Disorder kind _ refl e6 (λ e7. tested n 65 Duplicate kind None refl e7 (λ e8. absurd cc))))))))
 
--- a word that names none is no kind's
+-- a word that names no kind is the word of none
 pub flags_of-none : (n : ℕ) → flags_of n ≡ None → (kind : Flags) → n ≢ flags_word kind
 flags_of-none n e kind is =
     let both : Some kind ≡ None = sym (flags_of-flags_word kind) ∙ ap flags_of (sym is) ∙ e in absurd cc
@@ -48,7 +48,7 @@ none_among : (n : ℕ) (found : Option Flags) → flags_of n ≡ found → ((kin
 none_among n None e apart = refl
 none_among n (Some kind) e apart = absurd (apart kind (flags_of-some n kind e))
 
--- a word that is no kind's names none
+-- a word that is no kind's names no kind
 pub names_none : (n : ℕ) → ((kind : Flags) → n ≢ flags_word kind) → flags_of n ≡ None
 names_none n apart = none_among n (flags_of n) refl apart
 

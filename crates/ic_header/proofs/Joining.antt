@@ -1,4 +1,5 @@
--- The two laws that join spelling and reading: what is spelled so is read, and what is read is spelled so.
+-- The two laws that join spelling and reading: bytes that spell something are read as it, and what is read is spelled
+-- by the bytes.
 use Rattle.std.proofs.Common.{◌≡◌, ℕ, zero, suc, ◌+◌, ◌-◌, ◌<◌, ◌≤◌, ◌^◌, List, [], ◌∷◌, ◌++◌, length, get_or, drop, ℤ, FitsSigned, Result, Ok, Err, refl, sym, ap, subst, ◌∙◌, ◌↔◌, arith, length-append}
 use Rattle.std.specs.List.{flat_map, AllByRecursion}
 use Rattle.std.specs.Int.{w32, to_be_bytes, cast_unsigned, cast_signed}
@@ -16,7 +17,7 @@ use Rattle.ic_header.proofs.FlagWords.{flags_of-flags_word}
 use Rattle.ic_header.proofs.Words.{IsBytes, length-words, word_at-below, word_at-words, words_from, words_from-spelled}
 use Rattle.ic_header.proofs.Judging.{IsFine, Misfits, Reads, Shorts, Sums, Unknown, len_fits-from, reads_kind, verdict}
 
--- ---- what is spelled so is read
+-- ---- bytes that spell something are read as it
 
 pub length-written : (h : Header) → length (written h) ≡ 64
 unfolding written
@@ -67,9 +68,9 @@ reads_spelled h body bytes heads =
     let len : h.len ≡ 64 + length body = omega (arith, heads.len, long, length-append (written h) body, length-written h) in
     ap read_header heads.spelled ∙ reads_again h body len heads.allowed heads.in_range
 
--- ---- what is read is spelled so
+-- ---- what is read is spelled by the bytes
 
--- the content ids, the crc and the flags are the words that stand there
+-- the content ids, the crc and the flags are the words at their places
 sixteen : (bytes : List ℕ) (a b c d : ℕ) → a ≡ word_at bytes 9 → b ≡ word_at bytes 10 → c ≡ word_at bytes 11 → d ≡ word_at bytes 12
     → word_at bytes 0 ∷ word_at bytes 1 ∷ word_at bytes 2 ∷ word_at bytes 3 ∷ word_at bytes 4 ∷ word_at bytes 5 ∷ word_at bytes 6 ∷ word_at bytes 7 ∷ word_at bytes 8
     ∷ a ∷ b ∷ c ∷ d ∷ word_at bytes 13 ∷ word_at bytes 14 ∷ word_at bytes 15 ∷ [] ≡ words_from bytes 0 16

@@ -1,4 +1,4 @@
--- Reading gives a fault exactly where it is the first.
+-- Reading gives a fault exactly if it is the first.
 use Rattle.std.proofs.Common.{◌≡◌, ℕ, ◌-◌, ◌≤◌, List, length, drop, true, false, cond, ◌==◌, eq-eqb, Option, Some, None, Result, Ok, Err, refl, sym, ap, ◌∙◌, ◌↔◌, inl, inr}
 use Rattle.std.proofs.lemmas.Bool.{cases_Bool, cases_lt, lt-ltb, le-ltb, eqb-true, eqb-false, and_parts, and_from, both_ways, cond-true, cond-false, false_from_ne_true, ne_eqb}
 use Rattle.ic_header.specs.declared.header.Header.{Header}
@@ -89,7 +89,7 @@ verdict bytes =
       | inr long ↦ by_crc bytes long
     ]
 
--- ---- and so each fault comes exactly where its bytes are
+-- ---- and so each fault comes exactly if the bytes have it
 
 clash : {A : Type 0} (bytes : List ℕ) (a b : Result (Header × List ℕ) HeaderFault) → read_header bytes ≡ a → read_header bytes ≡ b → (a ≡ b → ⊥) → A
 clash bytes a b e f apart = absurd (apart (sym e ∙ f))

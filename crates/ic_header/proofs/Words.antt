@@ -9,7 +9,7 @@ use Rattle.std.proofs.lemmas.List.Concat.{flat_map-cons}
 use Rattle.std.proofs.Math.Seq.{drop-append-add}
 use Rattle.ic_header.specs.Reading.{word_at}
 
--- each number is one of a byte
+-- each number fits in a byte
 abbrev pub IsBytes : List ℕ → Type 0
 IsBytes bytes = (i : ℕ) → get_or bytes i 0 < 256
 
@@ -29,7 +29,7 @@ pub length-words : (ws : List ℕ) → length (flat_map (to_be_bytes w32) ws) �
 length-words [] = refl
 length-words (w ∷ ws) = omega (arith, length-append (to_be_bytes w32 w) (flat_map (to_be_bytes w32) ws), length-words ws)
 
--- a word that was written stands at its place, whatever follows
+-- a word that was written is at its place, whatever follows
 pub word_at-words : (ws : List ℕ) (rest : List ℕ) (k : ℕ) → k < length ws → AllByRecursion (λ n. n < 2 ^ 32) ws → word_at (flat_map (to_be_bytes w32) ws ++ rest) k ≡ get_or ws k 0
 unfolding word_at
 word_at-words [] rest k lt fits = absurd (omega (arith, lt))
@@ -50,7 +50,7 @@ pub word_at-below : (bytes : List ℕ) (k : ℕ) → IsBytes bytes → word_at b
 unfolding word_at
 word_at-below bytes k fits = from_below (take 4 (drop (4 * k) bytes)) (IsBytes-take 4 (drop (4 * k) bytes) (IsBytes-drop (4 * k) bytes fits))
 
--- so many words, from a place on
+-- this many words, from a place on
 abbrev pub words_from : List ℕ → ℕ → ℕ → List ℕ
 words_from bytes k zero = []
 words_from bytes k (suc n) = word_at bytes k ∷ words_from bytes (suc k) n
@@ -63,7 +63,7 @@ word_at-spelled bytes k fits long =
     let len : length (take 4 past) ≡ 4 = omega (arith, long, length-take 4 past, length-drop (4 * k) bytes) in
     be_bytes_4 (take 4 past) _ len (IsBytes-take 4 past (IsBytes-drop (4 * k) bytes fits)) refl
 
--- words that were read spell the bytes they stood in
+-- words that were read spell the bytes in which they were
 pub words_from-spelled : (bytes : List ℕ) (k n : ℕ) → IsBytes bytes → 4 * (k + n) ≤ length bytes
     → flat_map (to_be_bytes w32) (words_from bytes k n) ++ drop (4 * (k + n)) bytes ≡ drop (4 * k) bytes
 words_from-spelled bytes k zero fits long = let e : 4 * (k + 0) ≡ 4 * k = omega arith in ap (λ m. drop m bytes) e

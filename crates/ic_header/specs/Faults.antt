@@ -1,4 +1,4 @@
--- The four faults of a datagram, each where it is the first.
+-- The four faults of a datagram. Each condition says that no earlier fault is there.
 use Rattle.std.specs.Prelude.{◌≡◌, ◌≢◌, ℕ, ◌-◌, ◌<◌, ◌≤◌, List, length}
 use Rattle.ic_header.specs.declared.flags.Flags.{Flags}
 use Rattle.ic_header.specs.Spelling.{AllowsBody, flags_word}
@@ -19,7 +19,7 @@ pub record IsFlagsFault (bytes : List ℕ) : Type 0 where
   pub crc : word_at bytes 11 ≡ 0
   pub flags : (kind : Flags) → word_at bytes 12 ≢ flags_word kind
 
--- the kind is known, and the length told isn't that of the bytes, or the kind has no body of this length
+-- the kind is known, but the length in the header isn't that of the bytes, or the kind allows no body of this length
 pub record IsLenFault (bytes : List ℕ) : Type 0 where
   pub long : 64 ≤ length bytes
   pub crc : word_at bytes 11 ≡ 0

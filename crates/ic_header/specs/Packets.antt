@@ -1,4 +1,4 @@
--- Packets: what a datagram's bytes read as, and the datagrams that the ends of a connection make.
+-- Packets: how the bytes of a datagram are read, and the datagrams that the ends of a connection make.
 use Rattle.std.specs.Prelude.{◌≡◌, ℕ, ◌+◌, ℤ, pos, negsuc, ◌≤ℤ◌, List, [], ◌++◌, length, Bool, true, false, Option, Some, None, Result, Ok, Err}
 use Rattle.ic_base.specs.declared.keys.ConnKey.{ConnKey}
 use Rattle.ic_base.specs.declared.keys.ConnEnd.{ConnEnd}
@@ -14,7 +14,7 @@ use Rattle.ic_header.specs.Reading.{read_header}
 
 -- ---- reading
 
--- a header with the body behind it
+-- a header and the body after it
 pub record Packet : Type 0 where
   pub head : Header
   pub body : List ℕ
@@ -23,11 +23,11 @@ abbrev pub packet_read : Result (Header × List ℕ) HeaderFault → Option Pack
 packet_read (Ok r) = Some (record { head = r.0; body = r.1 })
 packet_read (Err fault) = None
 
--- the packet that a datagram's bytes are, if they are one
+-- the packet in a datagram's bytes, if they are one
 unfoldable pub packet_of : Datagram → Option Packet
 packet_of d = packet_read (read_header d.bytes)
 
--- the connection that a header speaks of, in packets of both directions
+-- the connection that a header names, whichever way the packet goes
 abbrev pub key_of : Header → ConnKey
 key_of h = record { session = h.session; query = h.query; motion = h.motion; from = h.src_content; to = h.dst_content }
 
@@ -42,7 +42,7 @@ is_rows Nak = false
 is_rows Disorder = false
 is_rows Duplicate = false
 
--- a packet of rows whose stream ends with it
+-- the last packet of rows of its stream
 abbrev pub is_last : Flags → Bool
 is_last Rows = false
 is_last LastRows = true
@@ -53,7 +53,7 @@ is_last Nak = false
 is_last Disorder = false
 is_last Duplicate = false
 
--- a packet from the sending end to the receiving one; the others are answers
+-- a packet from the sending end to the receiving end; all others are answers
 abbrev pub goes_forth : Flags → Bool
 goes_forth Rows = true
 goes_forth LastRows = true
@@ -64,13 +64,13 @@ goes_forth Nak = false
 goes_forth Disorder = false
 goes_forth Duplicate = false
 
--- the number of a segment
+-- the number is a segment's
 abbrev pub IsSegment : ℤ → Type 0
 IsSegment n = (negsuc 0 ≤ℤ n) × (n ≤ℤ pos 63)
 
 -- ---- making
 
--- the header of a packet of an end's connection: both pids and ports are 0, and len counts the header's 64 bytes too
+-- the header of a packet of this end's connection: both pids and ports are 0, and len counts the header's 64 bytes too
 abbrev pub header_for : ConnEnd → Flags → ℕ → ℕ → ℕ → Header
 header_for end flags size seq extra =
     record {
@@ -95,7 +95,7 @@ abbrev pub rows_flags : Bool → Flags
 rows_flags true = LastRows
 rows_flags false = Rows
 
--- a packet of rows, with its number, its payload and whether the stream ends with it
+-- a packet of rows: its number, its payload, and whether the stream ends with it
 pub record RowPacket : Type 0 where
   pub seq : ℕ
   pub payload : List ℕ
@@ -106,7 +106,7 @@ abbrev pub row_datagram : ConnEnd → RowPacket → Datagram
 row_datagram end p =
     record { from = end.key.from; to = end.key.to; bytes = written (header_for end (rows_flags p.last) (length p.payload) p.seq 0) ++ p.payload }
 
--- a status query of a sending end behind the packet of this number
+-- a status query of a sending end after the packet of this number
 abbrev pub query_datagram : ConnEnd → ℕ → Datagram
 query_datagram end seq = record { from = end.key.from; to = end.key.to; bytes = written (header_for end Query 0 seq 0) }
 
@@ -119,12 +119,12 @@ answer_datagram end flags seq extra body =
 abbrev pub listing : List ℕ → List ℕ
 listing numbers = flat_map (to_be_bytes w32) numbers
 
--- an answer of this end, and its bytes are its header and its body
+-- the datagram is this answer of this end, and its bytes are the header and the body
 pub record IsAnswer (end : ConnEnd) (flags : Flags) (seq extra : ℕ) (body : List ℕ) (d : Datagram) : Type 0 where
   pub is : d ≡ answer_datagram end flags seq extra body
   pub spelled : Heads (header_for end flags (length body) seq extra) body d.bytes
 
--- The header of an answer where there is no connection. It has the key, the slice numbers and the number of what it answers.
+-- The header of the answer to a packet of an unknown connection. It repeats the packet's key, slice numbers and number.
 abbrev pub turned_header : Header → Flags → Header
 turned_header head flags =
     record {
@@ -145,7 +145,7 @@ turned_header head flags =
       extra = 0;
     }
 
--- such an answer from one segment to another, and its bytes are its header
+-- the datagram is such an answer from one segment to another, and its bytes are the header
 pub record IsTurned (from to : ℤ) (head : Header) (flags : Flags) (d : Datagram) : Type 0 where
   pub is : d ≡ record { from = from; to = to; bytes = written (turned_header head flags) }
   pub spelled : Heads (turned_header head flags) [] (written (turned_header head flags))

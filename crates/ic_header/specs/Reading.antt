@@ -1,4 +1,4 @@
--- The same datagram read from the front, with the first fault that is met.
+-- A datagram read from the front, with the first fault.
 use Rattle.std.specs.Prelude.{ℕ, ◌-◌, ◌*◌, ◌%◌, ℤ, List, length, take, drop, Bool, not, ◌&&◌, ◌==◌, nat_lt, nat_le, if◌then◌else◌, Option, Some, None, Result, Ok, Err}
 use Rattle.std.specs.Int.{w32, from_be_bytes, cast_signed}
 use Rattle.std.specs.Borrow.{Bor}
@@ -8,15 +8,15 @@ use Rattle.ic_header.specs.declared.fault.HeaderFault.TheVariants as fault
 use Rattle.ic_header.specs.declared.flags.Flags.{Flags}
 use Rattle.ic_header.specs.declared.flags.Flags.TheVariants.{Rows, LastRows, Query, Ack, Stop, Nak, Disorder, Duplicate}
 
--- the word at a place, from 0: four bytes, the greatest first
+-- the word at this position, from 0: four bytes, most significant first
 unfoldable pub word_at : List ℕ → ℕ → ℕ
 word_at bytes place = from_be_bytes w32 (take 4 (drop (4 * place) bytes))
 
--- the content id at a place
+-- the content id at this position
 unfoldable pub content_at : List ℕ → ℕ → ℤ
 content_at bytes place = cast_signed w32 (word_at bytes place)
 
--- the kind that a word names, if it names one
+-- the kind of this word, if it is one of the eight
 unfoldable pub flags_of : ℕ → Option Flags
 flags_of n =
     if n == 0 then Some Rows else
@@ -39,7 +39,7 @@ allows_body Nak n = n == 0
 allows_body Disorder n = not (n == 0) && (n % 4 == 0)
 allows_body Duplicate n = n == 0
 
--- the header whose words these are, the crc aside
+-- the header with these words, without the crc
 unfoldable pub header_at : List ℕ → Flags → Header
 header_at bytes flags = record {
   motion = word_at bytes 0;
@@ -59,7 +59,7 @@ header_at bytes flags = record {
   extra = word_at bytes 15;
 }
 
--- whether the length told is that of the bytes, and the kind may have the body behind 64 of them
+-- whether the length in the header is that of the bytes, and the kind allows the body after the first 64
 unfoldable pub len_fits : List ℕ → Flags → Bool
 len_fits bytes flags = (word_at bytes 13 == length bytes) && allows_body flags (length bytes - 64)
 
@@ -75,7 +75,7 @@ read_header bytes =
     if nat_lt (length bytes) 64 then Err fault.Short else
     (if word_at bytes 11 == 0 then read_with bytes (flags_of (word_at bytes 12)) else Err fault.Crc)
 
--- what was returned, without where the body lies
+-- the returned header and body, as plain lists
 abbrev pub seen : Result (Header × Bor (List ℕ)) HeaderFault → Result (Header × List ℕ) HeaderFault
 seen (Ok r) = Ok (r.0, r.1.now)
 seen (Err e) = Err e

@@ -28,23 +28,23 @@ AllowsBody Nak n = n ≡ 0
 AllowsBody Disorder n = (0 < n) × (n % 4 ≡ 0)
 AllowsBody Duplicate n = n ≡ 0
 
--- the sixteen words: the content ids as two's complement, 0 as the crc
+-- the sixteen words: the content ids in two's complement, and 0 as the crc
 abbrev pub words_of : Header → List ℕ
 words_of h =
     h.motion ∷ h.src_pid ∷ h.src_port ∷ h.dst_pid ∷ h.dst_port ∷ h.session ∷ h.query ∷ h.recv_slice ∷ h.send_slice
     ∷ cast_unsigned w32 h.src_content ∷ cast_unsigned w32 h.dst_content ∷ 0 ∷ flags_word h.flags ∷ h.len ∷ h.seq ∷ h.extra ∷ []
 
--- the 64 bytes: each word as four, the greatest first
+-- the 64 bytes: four for each word, most significant first
 unfoldable pub written : Header → List ℕ
 written h = flat_map (to_be_bytes w32) (words_of h)
 
--- each word is one of 32 bits, and each content id a signed number of 32 bits
+-- each word fits in 32 bits, and each content id in 32 signed bits
 pub record IsInRange (h : Header) : Type 0 where
   pub words : AllByRecursion (λ w. w < 2 ^ 32) (words_of h)
   pub src_content : FitsSigned w32 h.src_content
   pub dst_content : FitsSigned w32 h.dst_content
 
--- the bytes are this header and this body, and the header tells the number of all of them
+-- the bytes are this header and this body, and the header has their total length
 pub record Heads (header : Header) (body : List ℕ) (bytes : List ℕ) : Type 0 where
   pub spelled : bytes ≡ written header ++ body
   pub len : header.len ≡ length bytes

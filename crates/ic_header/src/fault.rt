@@ -1,4 +1,5 @@
-/// Why bytes are no datagram with a header. It is the peer's or the network's doing, and the first in this order.
+/// Why the bytes aren't a datagram with a header: the peer's or the network's doing. If several faults are there, the
+/// first in this order is named.
 #[derive(Clone, Copy, Debug, PartialEq, Eq)]
 pub enum HeaderFault {
     /// Fewer than 64 bytes.
@@ -7,6 +8,6 @@ pub enum HeaderFault {
     Crc,
     /// The flags word is none of the eight.
     Flags,
-    /// The length told isn't the datagram's, or the body's length is none that the flags allow.
+    /// The length in the header isn't the datagram's, or the flags don't allow a body of this length.
     Len,
 }

@@ -1,22 +1,23 @@
-/// What a packet is. Its word is made of bits: 1 goes from receiver to sender, 2 acknowledges, 4 stops, 8 ends the
-/// stream, 16 knows no such connection, 32 tells what is missing, 64 had it before, 128 asks. No other word is one.
+/// The kind of a packet. Its word is a sum of bits: 1 goes from receiver to sender, 2 acknowledges, 4 stops, 8 ends the
+/// stream, 16 no such connection, 32 lists what is missing, 64 came before, 128 asks. Only the eight words below are
+/// used.
 #[derive(Clone, Copy, Debug, PartialEq, Eq)]
 pub enum Flags {
-    /// Word 0, to the receiver: rows. Its body has 4 bytes or more.
+    /// Word 0, to the receiver: rows. The body has at least 4 bytes.
     Rows,
-    /// Word 8, to the receiver: rows and the end of stream. Its body has 4 bytes or more.
+    /// Word 8, to the receiver: rows, and then the end of stream. The body has at least 4 bytes.
     LastRows,
-    /// Word 128, to the receiver: a status query, the field's window probe. No body.
+    /// Word 128, to the receiver: a status query (window probe). No body.
     Query,
-    /// Word 3, to the sender: all up to a number came, and how many were consumed. No body.
+    /// Word 3, to the sender: all packets up to a number came, and how many were consumed. No body.
     Ack,
     /// Word 5, to the sender: send no more. No body.
     Stop,
     /// Word 17, to the sender: no such connection yet. No body.
     Nak,
-    /// Word 33, to the sender: these numbers are missing. Its body has them, 4 bytes each, and at least one.
+    /// Word 33, to the sender: these packets are missing. The body lists their numbers, 4 bytes each, at least one.
     Disorder,
-    /// Word 65, to the sender: that number came before. No body.
+    /// Word 65, to the sender: the packet of that number came before. No body.
     Duplicate,
 }
 
@@ -25,7 +26,7 @@ impl Flags {
     ghost use Rattle.ic_header.specs.Spelling.{flags_word};
     ghost use Rattle.ic_header.specs.Reading.{flags_of, allows_body};
 
-    /// The word of a kind.
+    /// The word of this kind.
     pub(crate) fn word(self) -> u32
         ensures { result ≡ flags_word self }
     {
@@ -41,7 +42,7 @@ impl Flags {
         }
     }
 
-    /// The kind of a word, if it is one of the eight.
+    /// The kind of this word, or `None` if it is none of the eight.
     #[tactic(auto, unfolding(crate::specs::Reading::flags_of))]
     pub(crate) fn from_word(word: u32) -> Option<Flags>
         ensures { result ≡ flags_of word }
@@ -59,7 +60,7 @@ impl Flags {
         }
     }
 
-    /// Whether the kind may have a body of this many bytes.
+    /// Whether this kind may have a body of this many bytes.
     pub(crate) fn allows(self, body: usize) -> bool
         ensures { result ≡ allows_body self body }
     {

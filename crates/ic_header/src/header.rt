@@ -1,30 +1,31 @@
 use crate::flags::Flags;
 
-/// The header of a datagram, but for the crc word, which is always 0. Fields in the order of the words, and the
-/// content ids as signed numbers: -1 is the dispatcher. Any number may stand in any field but `flags` and `len`.
+/// The header of a datagram without the crc word, which is always 0. The fields are in the order of the words. The
+/// content ids are signed: -1 is the dispatcher. Only `flags` and `len` are restricted; every other field may hold any
+/// number.
 #[derive(Clone, Copy, Debug, PartialEq, Eq)]
 pub struct Header {
-    /// The motion of the plan, the field's motNodeId.
+    /// The motion of the plan (motNodeId).
     pub motion: u32,
-    /// Written as 0 by this project, as are both ports and the other process id.
+    /// This project writes 0 here, and in both ports and in the other process id.
     pub src_pid: u32,
     pub src_port: u32,
     pub dst_pid: u32,
     pub dst_port: u32,
     pub session: u32,
-    /// The query's number in its session, the field's icId.
+    /// The number of the query in its session (icId).
     pub query: u32,
     pub recv_slice: u32,
     pub send_slice: u32,
-    /// The segment that sends the connection's rows, in packets of both directions.
+    /// The segment that sends the connection's rows, whichever way the packet goes.
     pub src_content: i32,
-    /// The segment that receives the connection's rows, in packets of both directions.
+    /// The segment that receives the connection's rows, whichever way the packet goes.
     pub dst_content: i32,
     pub flags: Flags,
-    /// Bytes of the whole datagram, these 64 among them.
+    /// The length of the whole datagram in bytes, with these 64.
     pub len: u32,
-    /// A packet's number, from 1. What it is in each kind of answer is said by who sends it.
+    /// The number of a packet, from 1. In an answer its meaning depends on the kind.
     pub seq: u32,
-    /// The second number of an answer; 0 in rows and queries.
+    /// The second number of an answer. 0 in rows and queries.
     pub extra: u32,
 }

@@ -1,10 +1,10 @@
-//! The 64-byte packet header, both ways, and the packets with it. No socket, no connection, and no judgement of what a
-//! number means: any session, query, slice, content id and sequence number is written and read.
+//! The 64-byte packet header, written and read, and the packets that begin with it. No socket and no connection.
+//! Numbers aren't judged: any session, query, slice, content id and sequence number is written and read.
 //!
-//! [`write`] spells a header into 64 bytes that the caller owns. [`read`] takes a whole datagram and gives the
-//! header and the body behind it, or the first of four faults. Each copies 64 bytes; the body is never copied.
+//! [`write`] puts a header into 64 bytes that the caller owns. [`read`] takes a whole datagram and gives the header and
+//! the body after it, or the first of four faults. Each copies 64 bytes; `read` never copies the body.
 //!
-//! Read first: `specs/Spelling.antt`. Below: std alone. Above: whoever emits or hears a datagram.
+//! Read first: `specs/Spelling.antt`. Below: `ic_base`. Above: whatever emits or receives a datagram.
 #![tactic(auto)]
 
 mod fault;

@@ -1,4 +1,4 @@
-// The datagrams that the ends of connections and the hub make.
+// The datagrams that hubs and the ends of connections emit.
 ghost use Rattle.std.specs.Prelude.{◌≡◌, ℕ, List, ◌+◌, ◌*◌, ◌≤◌, [], ◌++◌, length, IfOk, OnOk};
 ghost use Rattle.ic_header.specs.Spelling.{AllowsBody, Heads, written};
 ghost use Rattle.ic_header.specs.Packets.{rows_flags, header_for, row_datagram, query_datagram, listing, IsAnswer, turned_header, IsTurned};
@@ -9,7 +9,7 @@ use crate::writing::write;
 use ic_base::{Bytes, ConnEnd, Datagram, SegId};
 use std::alloc::{AllocError, Global};
 
-/// The bytes of a header.
+/// The length of a header in bytes.
 pub const HEADER: usize = 64;
 
 fn flags_of(last: bool) -> Flags
@@ -18,7 +18,7 @@ fn flags_of(last: bool) -> Flags
     if last { Flags::LastRows } else { Flags::Rows }
 }
 
-/// The header of a packet with a body of so many bytes.
+/// The header of a packet whose body has this many bytes.
 fn header_of(end: &ConnEnd, flags: Flags, size: usize, seq: u32, extra: u32) -> Header
     requires { size ≤ 65536 }
     ensures { result ≡ header_for end.now flags size seq extra }
@@ -42,7 +42,7 @@ fn header_of(end: &ConnEnd, flags: Flags, size: usize, seq: u32, extra: u32) -> 
     }
 }
 
-/// A header with its body after it, in a datagram between two segments. Copies the body once.
+/// A header and then its body, in a datagram between two segments. Copies the body once.
 fn datagram(
     alloc: Global,
     from: SegId,
@@ -67,8 +67,8 @@ fn datagram(
     })
 }
 
-/// A packet of rows of a sending end: its number from 1, a payload of 4..=65443 bytes, and whether the stream ends with
-/// it. Copies the payload once.
+/// A packet of rows from a sending end: its number, from 1; a payload of 4..=65443 bytes; and whether the stream ends
+/// with it. Copies the payload once. Fails only if out of memory.
 pub fn rows_packet(
     alloc: Global,
     end: &ConnEnd,
@@ -83,7 +83,7 @@ pub fn rows_packet(
     datagram(alloc, end.key.from, end.key.to, &header, payload)
 }
 
-/// A status query of a sending end after the packet of this number.
+/// A status query from a sending end. `seq` is the number of the last packet before it. Fails only if out of memory.
 pub fn query_packet(alloc: Global, end: &ConnEnd, seq: u32) -> Result<Datagram, AllocError>
     ensures { IfOk result (λ d. d ≡ query_datagram end.now seq) }
 {
@@ -91,7 +91,7 @@ pub fn query_packet(alloc: Global, end: &ConnEnd, seq: u32) -> Result<Datagram, 
     datagram(alloc, end.key.from, end.key.to, &header, &[])
 }
 
-/// An answer of a receiving end, a header alone.
+/// An answer from a receiving end that has no body. Fails only if out of memory.
 pub fn answer_packet(
     alloc: Global,
     end: &ConnEnd,
@@ -106,7 +106,7 @@ pub fn answer_packet(
     datagram(alloc, end.key.to, end.key.from, &header, &[])
 }
 
-/// Numbers, four bytes each, in room for no more.
+/// The numbers as bytes, four each, in a buffer of exactly that length.
 fn listed(alloc: Global, numbers: &[u32]) -> Result<Vec<u8>, AllocError>
     requires few { length numbers.now ≤ 16384 }
     ensures { IfOk result (λ bytes. bytes.items ≡ listing numbers.now) }
@@ -118,7 +118,7 @@ fn listed(alloc: Global, numbers: &[u32]) -> Result<Vec<u8>, AllocError>
     Ok(bytes)
 }
 
-/// An answer of a receiving end that lists numbers after its header.
+/// An answer from a receiving end whose body lists numbers. Fails only if out of memory.
 pub fn listing_packet(
     alloc: Global,
     end: &ConnEnd,
@@ -136,7 +136,8 @@ pub fn listing_packet(
     datagram(alloc, end.key.to, end.key.from, &header, body.as_slice())
 }
 
-/// An answer to a packet of a connection that isn't there, to whoever sent it. It has the packet's key, slices and number.
+/// The answer to a packet of an unknown connection, to whoever sent it. It repeats the packet's key, slices and number.
+/// Fails only if out of memory.
 pub fn turned_packet(
     alloc: Global,
     from: SegId,

@@ -7,7 +7,7 @@ use crate::fault::HeaderFault;
 use crate::flags::Flags;
 use crate::header::Header;
 
-/// The word at a place, from 0.
+/// The word at this position, from 0.
 #[tactic(auto, unfolding(crate::specs::Reading::word_at))]
 fn word(bytes: &[u8], place: usize) -> u32
     requires small { place < 16 }
@@ -18,7 +18,7 @@ fn word(bytes: &[u8], place: usize) -> u32
     u32::from_be_bytes([bytes[at], bytes[at + 1], bytes[at + 2], bytes[at + 3]])
 }
 
-/// The word at a place, from 0, as two's complement.
+/// The word at this position, from 0, as a signed number in two's complement.
 #[tactic(auto, unfolding(crate::specs::Reading::content_at))]
 fn content(bytes: &[u8], place: usize) -> i32
     requires small { place < 16 }
@@ -28,7 +28,7 @@ fn content(bytes: &[u8], place: usize) -> i32
     word(bytes, place).cast_signed()
 }
 
-/// The fields of a header whose flags are known.
+/// The header's fields, if the kind is already known.
 #[tactic(auto, unfolding(crate::specs::Reading::header_at))]
 fn header(bytes: &[u8], flags: Flags) -> Header
     requires { 64 ≤ length bytes.now }
@@ -53,7 +53,7 @@ fn header(bytes: &[u8], flags: Flags) -> Header
     }
 }
 
-/// Whether the length told is the datagram's, and the body's length one that the flags allow.
+/// Whether the length in the header is the datagram's, and the kind allows a body of this length.
 #[tactic(auto, unfolding(crate::specs::Reading::len_fits))]
 fn len_fits(bytes: &[u8], flags: Flags) -> bool
     requires { 64 ≤ length bytes.now }
@@ -83,14 +83,14 @@ fn judged(bytes: &[u8]) -> Result<(Header, &[u8]), HeaderFault>
     Ok((header(bytes, flags), body))
 }
 
-/// Reads a whole datagram: its header, and the body behind it, which stays where it lies. Any number is taken in
-/// any field but the crc, the flags and the length.
+/// Reads a whole datagram: the header and the body after it. The body is a slice of `bytes`, not a copy. Only the crc,
+/// the flags and the length are checked; every other field may hold any number.
 pub fn read(bytes: &[u8]) -> Result<(Header, &[u8]), HeaderFault>
-    // A header and a body are read exactly where the bytes are spelled by them.
+    // A header and a body are returned exactly if the bytes are their spelling.
     ensures ok { (h : Header) (body : List ℕ) → (seen result ≡ Ok (h, body)) ↔ Heads h body bytes.now }
-    // What is read is spelled so, each byte of it.
+    // If they are returned, every byte is spelled by them.
     ensures heads { IfOk result (λ r. Heads r.0 r.1.now bytes.now) }
-    // Each fault comes exactly where it is the first.
+    // Each fault is returned exactly if it is the first.
     ensures short { (result ≡ Err HeaderFault.Short) ↔ IsShort bytes.now }
     ensures crc { (result ≡ Err HeaderFault.Crc) ↔ IsCrcFault bytes.now }
     ensures flags { (result ≡ Err HeaderFault.Flags) ↔ IsFlagsFault bytes.now }

@@ -2,7 +2,7 @@ use super::*;
 use ic_base::{ConnEnd, ConnKey, Datagram, SegId};
 use std::test::*;
 
-/// The one packet of a stream of two rows, from segment 0 to the dispatcher. `vectors/header.txt` has it in words.
+/// The only packet of a stream of two rows, from segment 0 to the dispatcher. `vectors/header.txt` explains each word.
 const LAST: [u8; 98] = [
     0, 0, 0, 1, 0, 0, 0, 0, 0, 0, 0, 0, 0, 0, 0, 0, 0, 0, 0, 0, 0, 0, 0, 7, 0, 0, 0, 1, 0, 0, 0, 0,
     0, 0, 0, 1, 0, 0, 0, 0, 255, 255, 255, 255, 0, 0, 0, 0, 0, 0, 0, 8, 0, 0, 0, 98, 0, 0, 0, 1, 0,
@@ -28,7 +28,7 @@ const LAST_HEADER: Header = Header {
     extra: 0,
 };
 
-/// An answer whose every word is its own, and whose content ids are the least and one below the dispatcher.
+/// An answer in which no two words are the same. The content ids are the least one and -2, one below the dispatcher.
 const ACK: [u8; 64] = [
     1, 2, 3, 4, 5, 6, 7, 8, 9, 10, 11, 12, 13, 14, 15, 16, 17, 18, 19, 20, 21, 22, 23, 24, 25, 26,
     27, 28, 29, 30, 31, 32, 33, 34, 35, 36, 128, 0, 0, 0, 255, 255, 255, 254, 0, 0, 0, 0, 0, 0, 0,
@@ -100,7 +100,7 @@ fn rows_go_in_the_packet_of_the_vectors(rt: HostRuntime) -> Result<(), Fail> {
     Ok(())
 }
 
-/// The word of the kind, and how many bytes there are.
+/// The word of the kind, and the number of bytes.
 fn kind_and_len(packet: &Datagram) -> Option<(u8, usize)> {
     let bytes = packet.bytes.as_slice();
     Some((*bytes.get(51)?, bytes.len()))

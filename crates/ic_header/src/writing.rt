@@ -4,7 +4,7 @@ ghost use Rattle.ic_header.specs.Reading.{read_header};
 
 use crate::header::Header;
 
-/// The sixteen words in their order.
+/// The sixteen words in order.
 fn words(header: Header) -> [u32; 16]
     ensures words { result ≡ words_of header }
     ensures in_range { IsInRange header }
@@ -29,15 +29,15 @@ fn words(header: Header) -> [u32; 16]
     ]
 }
 
-/// Writes the 64 bytes of a header: sixteen words, big-endian, the crc word 0. They replace what `out` held.
-/// Nothing is refused: whether the length told is true is the caller's to see to, who knows the body.
+/// Writes the 64 bytes of a header over what `out` held: sixteen words, big-endian, the crc word 0. Never fails: the
+/// caller, who knows the body, must set `len` right.
 pub fn write(header: &Header, out: &mut [u8; 64])
     // The bytes are the header's one spelling.
     ensures spelled { out.new ≡ written header.now }
-    // In front of a body that its flags allow and its length counts they are a whole datagram.
+    // Followed by a body that its flags allow and its `len` counts, they are a whole datagram.
     ensures heads { (body : List ℕ) → header.now.len ≡ 64 + length body → AllowsBody header.now.flags (length body)
         → Heads header.now body (out.new ++ body) }
-    // What was written is read again, and so is the body behind it.
+    // Header and body are then read back.
     ensures again { (body : List ℕ) → header.now.len ≡ 64 + length body → AllowsBody header.now.flags (length body)
         → read_header (out.new ++ body) ≡ Ok (header.now, body) }
 {

@@ -1,4 +1,4 @@
--- What reading gives, said of what was answered.
+-- What reading gives, said of the answer.
 use Rattle.std.proofs.Common.{◌≡◌, ℕ, ◌-◌, List, length, Result, Ok, Err, refl, ap, subst, ◌∙◌}
 use Rattle.std.specs.Prelude.{IfOk, IfErr}
 use Rattle.ic_row.specs.declared.value.Value.{Value}

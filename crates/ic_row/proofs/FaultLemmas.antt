@@ -1,4 +1,4 @@
--- Where reading stops, no value's spelling begins.
+-- At the byte at which reading stops, no value's spelling begins.
 use Rattle.std.proofs.Common.{◌≡◌, ◌≢◌, ℕ, zero, suc, ◌-◌, ◌^◌, ◌<◌, Bool, true, false, cond, eqb, ltb, List, [], ◌∷◌, ◌++◌, length, take, drop, Option, Some, None, Result, Ok, Err, refl, sym, ap, ◌∙◌, append_assoc, arith, inl, inr, ◌⊎◌}
 use Rattle.std.specs.List.{flat_map, AllByRecursion}
 use Rattle.std.specs.Int.{w16, from_be_bytes, to_be_bytes}
@@ -18,7 +18,7 @@ failed left = Err left
 err_is : {A : Type 0} (x y : ℕ) → failed {A = A} x ≡ failed y → x ≡ y
 err_is x y e = cc
 
--- the first step failed, or the second
+-- either the first step failed, or the second
 bind_err : {A B : Type 0} (r : Result A ℕ) (f : A → Result B ℕ) (left : ℕ) → (r >>= f) ≡ Err left → (r ≡ Err left) ⊎ ((x : A) × (r ≡ Ok x) × (f x ≡ Err left))
 bind_err {A} {B} (Ok x) f left e = inr (x, refl, e)
 bind_err {A} {B} (Err d) f left e = inl (ap Err (err_is {A = B} d left e))
@@ -86,7 +86,7 @@ short_count bytes e = by (ltb (length bytes) 2) (from_be_bytes w16 (take 2 bytes
     by true x h f = f refl
     by false x h f = absurd cc
 
--- the place of a stop, from what is left
+-- the place of a stop, from the number of bytes left
 place_is : (bytes : List ℕ) (count : ℕ) (values : List Value) (rest : List ℕ) (left : ℕ) → Begins bytes count values rest → left ≡ length rest → length bytes - left ≡ end_of values
 place_is bytes count values rest left begins is =
     let whole = ap length begins.parts in

@@ -1,4 +1,4 @@
--- What is left where reading stops is no more than there was.
+-- When reading stops, no more bytes are left than there were.
 use Rattle.std.proofs.Common.{◌≡◌, ℕ, zero, suc, ◌≤◌, Bool, true, false, cond, eqb, ltb, List, [], ◌∷◌, length, take, drop, Option, Some, None, Result, Ok, Err, refl, ap, subst, arith, length-drop}
 use Rattle.std.specs.Option.{option_map, ok_or}
 use Rattle.std.specs.Int.{Width, w16, w32, w64, w128, byte_len, from_be_bytes}
@@ -7,7 +7,7 @@ use Rattle.ic_row.specs.declared.value.Value.{Value}
 use Rattle.ic_row.specs.declared.value.Value.TheVariants.{Null, Chars}
 use Rattle.ic_row.specs.Reading.{◌>>=◌, number_at, int_from, wide_from, int_at, wide_at, text_from, text_at, value_behind, value_at, values_at, row_at}
 
--- what a reader leaves behind is no longer than what it was given
+-- a reader leaves no more bytes than it was given
 abbrev Leaves : {A : Type 0} → ℕ → Option (A × List ℕ) → Type 0
 Leaves n None = Unit {0}
 Leaves n (Some x) = length x.1 ≤ n
@@ -49,7 +49,7 @@ value_leaves (tag ∷ bytes) = wider (value_behind tag bytes) (behind_leaves tag
     wider None h = tt
     wider (Some x) h = omega (arith, h)
 
--- what is left at a stop, or behind the values, is no more than there was
+-- no more bytes are left at a stop, or after the values, than there were
 abbrev LeavesAt : ℕ → Result (List Value × List ℕ) ℕ → Type 0
 LeavesAt n (Ok x) = length x.1 ≤ n
 LeavesAt n (Err left) = left ≤ n
@@ -88,6 +88,6 @@ row_stops bytes = counted (number_at w16 bytes) (number_leaves w16 bytes)
     counted None h = omega arith
     counted (Some n) h = ended (length n.1) (values_at n.0 n.1) h (values_leave n.0 n.1)
 
--- so its place can be told
+-- so its offset can be computed
 pub left_within : (bytes : List ℕ) (left : ℕ) → row_at bytes ≡ Err left → left ≤ length bytes
 left_within bytes left e = subst (StopsWithin (length bytes)) e (row_stops bytes)

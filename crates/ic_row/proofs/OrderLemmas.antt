@@ -39,7 +39,7 @@ both_present down (Chars s) (Chars t) p q = refl
 
 -- ---- keys in turn
 
--- the key at a place, and those behind it
+-- the key at a place, and the keys after it
 at_key : (keys : List Key) (a b : List Value) (i : ℕ) (k : Key) → i < length keys → compare_by (drop i keys) a b ≡ ordering_then (key_cmp (get_or keys i k) a b) (compare_by (drop (i + 1) keys) a b)
 unfolding compare_by
 at_key keys a b i k lt = rw (add-one, drop-cons keys i k) refl

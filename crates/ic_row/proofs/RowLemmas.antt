@@ -1,4 +1,4 @@
--- A row that is read is spelled so, what is spelled is read, and a fault is the first one.
+-- A row that is read has these bytes as its spelling; a spelled row is read back; the fault named is the first one.
 use Rattle.std.proofs.Common.{◌≡◌, ℕ, zero, suc, Bool, true, false, cond, eqb, List, [], ◌∷◌, ◌++◌, length, Option, Some, None, Result, Ok, Err, refl, sym, ap, subst, ◌∙◌, append_assoc, arith}
 use Rattle.std.specs.Option.{ok_or}
 use Rattle.std.specs.List.{flat_map, AllByRecursion}
@@ -12,7 +12,7 @@ use Rattle.ic_row.specs.Reading.{◌>>=◌, number_at, value_at, values_at, row_
 use Rattle.ic_row.proofs.Fields.{IsBytes, Takes, Takes-then, wide16, number_takes, number_again}
 use Rattle.ic_row.proofs.ValueLemmas.{value_takes, value_again}
 
--- the value of a step that did not fail
+-- the value of a step that didn't fail
 bind_ok : {A B : Type 0} (r : Result A ℕ) (f : A → Result B ℕ) (y : B) → (r >>= f) ≡ Ok y → (x : A) × (r ≡ Ok x) × (f x ≡ Ok y)
 bind_ok (Ok x) f y e = (x, refl, e)
 bind_ok (Err d) f y e = absurd cc
@@ -31,7 +31,7 @@ guard_ended : {A : Type 0} (b : Bool) (d : ℕ) (x y : A) → cond b (Ok x) (Err
 guard_ended true d x y e = (refl, ok_is x y e)
 guard_ended false d x y e = absurd cc
 
--- what is a row can be spelled
+-- every row of the program can be spelled
 texts_fit : (vs : List Value) → AllByRecursion IsValue vs → AllByRecursion FitsLength vs
 texts_fit [] each = tt
 texts_fit (Null ∷ vs) each = (tt, texts_fit vs each.1)
@@ -71,7 +71,7 @@ values_again (v ∷ vs) rest fits =
 
 -- ---- a row
 
--- a row that is read from the front, with bytes behind it
+-- a row read from the front, with bytes after it
 pub row_front : List ℕ → Result (List Value × List ℕ) ℕ
 row_front bytes = ok_or (number_at w16 bytes) (length bytes) >>= λ n. values_at n.0 n.1
 

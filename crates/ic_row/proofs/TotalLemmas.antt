@@ -1,4 +1,4 @@
--- The order is total, whatever the keys.
+-- The order is total for all keys.
 use Rattle.std.proofs.Common.{sym, ◌≡◌, ℕ, Bool, true, false, ℤ, pos, List, [], ◌∷◌, refl, subst, ◌∙◌, ap}
 use Rattle.std.specs.declared.cmp.Ordering.{Ordering}
 use Rattle.std.specs.declared.cmp.Ordering.TheVariants.{Less, Equal, Greater}
@@ -60,7 +60,7 @@ composed_is (Chars s) (Int m) = refl
 composed_is (Chars s) (Wide m) = refl
 composed_is (Chars s) (Chars t) = refl
 
--- what is the same at each pair is as total
+-- a comparison that is the same at each pair is total too
 along : {K : Type 0} (R S : K → K → Ordering) → ((x y : K) → R x y ≡ S x y) → IsTotalOrder R → IsTotalOrder S
 along R S same total = subst IsTotalOrder (λ i x y. same x y i) total
 

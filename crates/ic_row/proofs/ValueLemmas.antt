@@ -1,4 +1,4 @@
--- What is read is spelled so, and what is spelled so is read, whatever follows it.
+-- What is read has these bytes as its spelling, and a spelled value is read back, whatever follows it.
 use Rattle.std.proofs.Common.{◌≡◌, ℕ, ◌^◌, ◌<◌, ◌≤◌, Bool, true, false, cond, eqb, ltb, List, [], ◌∷◌, ◌++◌, length, take, drop, Option, Some, None, refl, sym, ap, subst, ◌∙◌, append_assoc, arith, inl, inr, ◌⊎◌}
 use Rattle.std.specs.Int.{w32, w64, w128, to_be_bytes, cast_unsigned}
 use Rattle.std.specs.Str.{is_utf8}
@@ -52,7 +52,7 @@ text_again text rest is =
 
 -- ---- values
 
--- a value with what it takes
+-- a value with the bytes that it takes
 pub record TakesValue (bytes : List ℕ) (x : Value × List ℕ) : Type 0 where
   pub takes : Takes bytes (value_spelling x.0) x.1
   pub is : IsValue x.0

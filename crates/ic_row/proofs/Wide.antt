@@ -1,4 +1,4 @@
--- Sixteen bytes and the number that they stand for, by the two halves of eight.
+-- Sixteen bytes and the number that they encode, by the two halves of eight.
 use Rattle.std.proofs.Common.{◌≡◌, ℕ, ◌+◌, ◌*◌, ◌/◌, ◌%◌, ◌^◌, ◌<◌, List, [], ◌∷◌, ◌++◌, length, get_or, take, drop, refl, sym, inl, inr, ap, ◌∙◌, arith, length-drop}
 use Rattle.std.specs.Int.{w64, w128, from_be_bytes, to_be_bytes}
 use Rattle.std.proofs.lemmas.List.{take-append-drop, length-take, get_or-drop, get_or-take, get_or_past}

@@ -5,7 +5,7 @@ use Rattle.ic_row.specs.declared.value.Value.{Value}
 use Rattle.ic_row.specs.Values.{key_of}
 use Rattle.ic_row.specs.Spelling.{value_spelling}
 
--- FNV-1a in 64 bits: what it begins with, and what a byte makes of it
+-- FNV-1a in 64 bits: the offset basis, and the step for one byte
 unfoldable pub basis : ℕ
 basis = 14695981039346656037
 
@@ -20,6 +20,6 @@ hash_of bytes = fold hash_step basis bytes
 abbrev pub key_bytes : List ℕ → List Value → List ℕ
 key_bytes columns row = flat_map value_spelling (key_of columns row)
 
--- the hash of the key, by the number of segments
+-- the hash of the key, modulo the number of segments
 unfoldable pub segment_for : List ℕ → List Value → ℕ → ℕ
 segment_for columns row segments = hash_of (key_bytes columns row) % segments

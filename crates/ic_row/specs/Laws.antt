@@ -11,11 +11,11 @@ use Rattle.ic_row.specs.Hash.{segment_for}
 use Rattle.ic_row.specs.Spelling.{spelling_of, IsRow}
 use Rattle.ic_row.specs.Reading.{read_row_of}
 
--- a row that is spelled is read as itself
+-- a spelled row is read back as the same row
 abbrev pub ReadsWhatIsSpelled : Type 0
 ReadsWhatIsSpelled = (row : List Value) → IsRow row → read_row_of (spelling_of row) ≡ Ok row
 
--- two rows have two spellings
+-- two different rows have different spellings
 abbrev pub HasOneSpelling : Type 0
 HasOneSpelling = (a b : List Value) → IsRow a → IsRow b → spelling_of a ≡ spelling_of b → a ≡ b
 
@@ -23,19 +23,19 @@ HasOneSpelling = (a b : List Value) → IsRow a → IsRow b → spelling_of a �
 abbrev pub IsPrefixFree : Type 0
 IsPrefixFree = (a b : List Value) (more : List ℕ) → IsRow a → IsRow b → spelling_of a ++ more ≡ spelling_of b → more ≡ []
 
--- bytes that begin with a row's spelling begin with no other row's
+-- if bytes begin with the spelling of a row, they begin with no other row's
 abbrev pub BeginsAlone : Type 0
 BeginsAlone = (a b : List Value) (x y : List ℕ) → IsRow a → IsRow b → spelling_of a ++ x ≡ spelling_of b ++ y → (a ≡ b) × (x ≡ y)
 
 -- ---- the order
 
--- rows are ordered, though different rows may be equal in it
+-- rows are ordered, though different rows may compare as equal
 pub record IsPreorder (R : List Value → List Value → Ordering) : Type 0 where
-  -- each is equal to itself
+  -- each row equals itself
   pub itself : (a : List Value) → R a a ≡ Equal
-  -- the other way round the answer is reversed, so two rows can be compared in one way or the other
+  -- comparing the other way round reverses the answer, so any two rows can be compared
   pub swapped : (a b : List Value) → R b a ≡ ordering_reverse (R a b)
-  -- what isn't after something isn't after what that isn't after
+  -- if a isn't after b, and b isn't after c, then a isn't after c
   pub chain : (a b c : List Value) → is_le (R a b) ≡ true → is_le (R b c) ≡ true → is_le (R a c) ≡ true
 
 abbrev pub OrdersRows : Type 0
@@ -43,6 +43,6 @@ OrdersRows = (keys : List Key) → IsPreorder (compare_by keys)
 
 -- ---- the segment
 
--- rows with equal keys have one segment, whichever columns hold the key
+-- rows with equal keys belong to the same segment, even if the two keys are in different columns
 abbrev pub HashesByKey : Type 0
 HashesByKey = (a b : List Value) (x y : List ℕ) (segments : ℕ) → key_of x a ≡ key_of y b → segment_for x a segments ≡ segment_for y b segments

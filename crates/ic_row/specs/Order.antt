@@ -10,7 +10,7 @@ use Rattle.ic_row.specs.declared.value.Value.TheVariants.{Null, Int, Wide, Chars
 use Rattle.ic_row.specs.declared.order.Key.{Key}
 use Rattle.ic_row.specs.Values.{column}
 
--- where kinds stand among each other, which a column of one kind never asks
+-- the order of the kinds among each other; it never matters in a column of one kind
 abbrev pub rank_of : Value → ℕ
 rank_of (Int n) = 0
 rank_of (Wide n) = 1
@@ -24,7 +24,7 @@ value_cmp (Wide a) (Wide b) = int_cmp a b
 value_cmp (Chars a) (Chars b) = slice_cmp nat_cmp a b
 value_cmp a b = nat_cmp (rank_of a) (rank_of b)
 
--- the other way round, if so
+-- the order reversed, if the flag says so
 abbrev pub directed : Bool → Ordering → Ordering
 directed down order = if down then ordering_reverse order else order
 
@@ -44,6 +44,6 @@ unfoldable pub compare_by : List Key → List Value → List Value → Ordering
 compare_by [] a b = Equal
 compare_by (key ∷ keys) a b = ordering_then (key_cmp key a b) (compare_by keys a b)
 
--- no row stands before one that it sorts after
+-- no row comes before one that it sorts after
 abbrev pub IsSortedBy : List Key → List (List Value) → Type 0
 IsSortedBy keys rows = IsSorted (compare_by keys) rows

@@ -30,29 +30,29 @@ value_spelling (Wide n) = wide_spelling n
 unfoldable pub spelling_of : List Value → List ℕ
 spelling_of row = to_be_bytes w16 (length row) ++ flat_map value_spelling row
 
--- a text is shorter than 2 ^ 32 bytes
+-- a text has fewer than 2 ^ 32 bytes
 abbrev pub FitsLength : Value → Type 0
 FitsLength (Chars text) = length text < 2 ^ 32
 FitsLength _ = Unit {0}
 
--- what can be spelled: fewer than 2 ^ 16 values, and no text too long
+-- a row that can be spelled: fewer than 2 ^ 16 values, and each text short enough
 pub record HasLengths (row : List Value) : Type 0 where
   pub count : length row < 2 ^ 16
   pub texts : AllByRecursion FitsLength row
 
--- what a value of the program is: a number of its width, or a text in UTF-8, with a length that can be spelled
+-- a value that the program can hold and spell: a number of its width, or a text in UTF-8 that is short enough
 abbrev pub IsValue : Value → Type 0
 IsValue Null = Unit {0}
 IsValue (Int n) = FitsSigned w64 n
 IsValue (Wide n) = FitsSigned w128 n
 IsValue (Chars text) = (length text < 2 ^ 32) × IsUtf8 text
 
--- a row that can be spelled and read again
+-- a row that can be spelled and read back
 pub record IsRow (row : List Value) : Type 0 where
   pub count : length row < 2 ^ 16
   pub values : AllByRecursion IsValue row
 
--- the bytes are the one spelling of a row
+-- the bytes are the spelling of the row
 pub record Spells (row : List Value) (bytes : List ℕ) : Type 0 where
   pub is_row : IsRow row
   pub are : bytes ≡ spelling_of row

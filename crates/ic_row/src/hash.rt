@@ -1,4 +1,4 @@
-// The segment of a row.
+// The segment that a row belongs to.
 ghost use Rattle.std.specs.Prelude.{◌≡◌, ◌<◌};
 ghost use Rattle.std.specs.List.{fold};
 ghost use Rattle.ic_row.specs.Spelling.{value_spelling, int_spelling, text_spelling, wide_spelling};
@@ -8,10 +8,10 @@ ghost use Rattle.ic_row.specs.Hash.{basis, hash_step, segment_for};
 use crate::row::Row;
 use crate::value::Value;
 
-/// What FNV-1a in 64 bits begins with.
+/// The offset basis of FNV-1a in 64 bits: the hash of no bytes.
 const BASIS: u64 = 14695981039346656037;
 
-/// What FNV-1a in 64 bits multiplies by.
+/// The prime of FNV-1a in 64 bits, by which each step multiplies.
 const PRIME: u64 = 1099511628211;
 
 #[tactic(auto, unfolding(crate::specs::Hash::hash_step))]
@@ -45,7 +45,7 @@ fn mix_wide(hash: u64, n: i128) -> u64
     mix_all(mix(hash, 3), &n.cast_unsigned().to_be_bytes())
 }
 
-/// The length is hashed in its low four bytes.
+/// Of the length only the low four bytes are hashed, as only they are spelled.
 #[tactic(auto, unfolding(crate::specs::Spelling::text_spelling))]
 fn mix_text(hash: u64, text: &[u8]) -> u64
     ensures { result ≡ fold hash_step hash (text_spelling text.now) }
@@ -81,8 +81,9 @@ fn start() -> u64
     BASIS
 }
 
-/// The segment that the columns' values give, 0..segments: FNV-1a in 64 bits over their spellings, by the number of
-/// segments. Rows with equal keys have one segment. A column past the last is null. Takes no memory.
+/// The segment for the values in these columns, 0..segments: the FNV-1a hash in 64 bits over their spellings, modulo
+/// the number of segments. Rows with equal keys get the same segment. `columns` are positions from 0; a column past the
+/// last one counts as null. Takes no memory.
 #[tactic(auto, unfolding(crate::specs::Hash::segment_for))]
 pub fn segment_of(row: &Row, columns: &[u32], segments: u32) -> u32
     requires { 0 < segments }

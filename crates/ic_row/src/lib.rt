@@ -1,7 +1,7 @@
-//! Values and rows: their one spelling, their order, and the segment that a row belongs to. No table, no packet, no
-//! document: a caller has the rows already, or the bytes of one.
+//! Values and rows: how they are spelled as bytes, ordered, and dealt to segments. No table, no packet, no document: a
+//! caller already has the rows, or the bytes of one.
 //!
-//! `spell` writes a row and `read_row` reads it; `compare` orders two rows by keys, and `segment_of` places one.
+//! `spell` writes a row and `read_row` reads it. `compare` orders two rows by keys. `segment_of` gives a row's segment.
 //! Below: `ic_base` for bytes and texts. Above: chunks, predicates, plans and every operator.
 #![tactic(auto)]
 

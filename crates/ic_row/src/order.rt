@@ -7,7 +7,7 @@ use crate::row::Row;
 use crate::value::Value;
 use std::cmp::Ordering;
 
-/// A sort key: a column by its position from 0, and whether it goes from the greatest down. SQL's `desc`.
+/// A sort key: a column by its position from 0, and whether the greatest value comes first (SQL's `desc`).
 #[derive(Clone, Copy, Debug, PartialEq, Eq)]
 pub struct Key {
     pub column: u32,
@@ -36,11 +36,11 @@ fn order_of(a: &Value, b: &Value) -> Ordering
     }
 }
 
-/// The order of two values: numbers by size, texts by bytes, null last. Values of two kinds, which no column holds, are
-/// ordered too: ints, wides, texts. Takes no memory.
+/// Orders two values: numbers by size, texts by bytes, null last. A column never mixes kinds, but the order is defined
+/// for them too: ints before wides before texts. Takes no memory.
 pub fn compare_values(a: &Value, b: &Value) -> Ordering
     ensures value { result ≡ value_cmp a.now b.now }
-    // Equal with the same kind and content alone.
+    // Equal only if kind and content are the same.
     ensures same { (result ≡ Ordering.Equal) ↔ (a.now ≡ b.now) }
 {
     order_of(a, b)
@@ -64,8 +64,8 @@ fn compare_by_key(key: &Key, a: &Row, b: &Row) -> Ordering
     }
 }
 
-/// The order of two rows by keys in turn: null is last in both directions, texts go by bytes. Without keys all rows
-/// are equal. A column past the last is null. Takes no memory.
+/// Orders two rows by the first key in which they differ. Null is last in both directions; texts are ordered by bytes.
+/// With no keys all rows are equal. A column past the last one counts as null. Takes no memory.
 pub fn compare(keys: &[Key], a: &Row, b: &Row) -> Ordering
     ensures { result ≡ compare_by keys.now a.now b.now }
 {

@@ -1,4 +1,4 @@
-// Bytes as a row.
+// Reading a row from bytes.
 ghost use Rattle.std.specs.Prelude.{◌≡◌, List, length, true, false, IfOk, IfErr, MatchOption};
 ghost use Rattle.std.specs.Option.{ok_or};
 ghost use Rattle.std.specs.Int.{w16};
@@ -15,17 +15,18 @@ use crate::value::Value;
 use ic_base::Text;
 use std::alloc::{AllocError, Global};
 
-/// Why bytes weren't read as a row.
+/// Why the bytes weren't read as a row.
 #[derive(Clone, Copy, Debug, PartialEq, Eq)]
 pub enum RowNo {
-    /// The bytes' writer: the whole slice is no row's spelling. Holds the offset of the first fault in bytes from 0:
-    /// 0 where the count can't be read, else the first value that can't be read, else the first byte past the last value.
+    /// The doing of whoever wrote the bytes: the whole slice is not the spelling of any row. Holds the offset of the
+    /// first fault in bytes, from 0: 0 if the count can't be read; otherwise the start of the first value that can't be
+    /// read; otherwise, if all values can be read, the first byte after the last one.
     RowFault(usize),
-    /// This side: no memory was left for the row.
+    /// Out of memory on this side.
     Memory,
 }
 
-/// A value and the bytes behind it.
+/// A value and the bytes after it.
 type Found<'a> = Option<(Value, &'a [u8])>;
 
 #[tactic(auto, unfolding(crate::specs::Reading::int_at))]
@@ -54,7 +55,7 @@ fn utf8(bytes: &[u8]) -> Option<&str>
     }
 }
 
-/// `None` also where the bytes aren't UTF-8.
+/// `None` also if the bytes aren't UTF-8.
 #[tactic(auto, unfolding(crate::specs::Reading::text_at))]
 fn text_of(alloc: Global, bytes: &[u8]) -> Result<Found<'_>, AllocError>
     ensures { IfOk result (λ found. text_at bytes.now ≡ seen found) }
@@ -143,14 +144,14 @@ fn placed(alloc: Global, bytes: &[u8]) -> Result<Row, RowNo>
     }
 }
 
-/// The row that the whole slice spells. Texts are copied once, as slices; the bytes aren't kept. Room for values is
-/// taken as they come, and not for a count that nothing stands behind.
+/// The row that the whole slice spells. Each text is copied once; the slice isn't kept. Room for values is taken as
+/// they are read, never ahead for the stated count.
 pub fn read_row(alloc: Global, bytes: &[u8]) -> Result<Row, RowNo>
-    // What is read is spelled so.
+    // If a row is returned, the bytes are its spelling.
     ensures ok { IfOk result (λ row. Spells row bytes.now) }
-    // What is spelled so is read, unless memory runs out.
+    // If the bytes spell a row, that row is returned, unless memory runs out.
     ensures only { (row : List Datum) → Spells row bytes.now → Answers result (Ok row) }
-    // A fault is the first from the left.
+    // The fault named is the leftmost one.
     ensures fault { IfErr result (IsFault bytes.now) }
     // The same as a function of the bytes.
     ensures exact { Answers result (read_row_of bytes.now) }

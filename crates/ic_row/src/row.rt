@@ -41,7 +41,7 @@ impl Row {
         self.values.as_slice()
     }
 
-    /// How many values it has.
+    /// The number of values.
     pub fn len(&self) -> usize
         ensures { result ≡ length self.now }
     {
@@ -54,7 +54,8 @@ impl Row {
         self.values.is_empty()
     }
 
-    /// The value of a column by its position from 0, and `None` where that is null or past the last.
+    /// The value in a column, by its position from 0. `None` if that value is null, or if the position is past the last
+    /// one.
     pub fn present(&self, place: u32) -> Option<&Value>
         ensures { Presents result (column self.now place) }
     {
@@ -64,7 +65,7 @@ impl Row {
         }
     }
 
-    /// The same row again, in memory of its own.
+    /// A copy of the row in memory of its own. Copies each text once.
     pub fn copy(&self, alloc: Global) -> Result<Row, AllocError>
         ensures { IfOk result (λ r. r ≡ self.now) }
     {

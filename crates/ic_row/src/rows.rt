@@ -49,7 +49,7 @@ impl Rows {
         self.items.as_slice()
     }
 
-    /// How many rows there are.
+    /// The number of rows.
     pub fn len(&self) -> usize
         ensures { result ≡ length self.now }
     {
@@ -62,7 +62,7 @@ impl Rows {
         self.items.is_empty()
     }
 
-    /// Adds a row at the end. A refused row is dropped.
+    /// Adds a row at the end. Fails only if out of memory; then the row is dropped.
     pub fn push(&mut self, row: Row) -> Result<(), AllocError>
         ensures ok { OnOk result (self.new ≡ self.old ++ row ∷ []) }
         ensures err { OnErr result (self.new ≡ self.old) }

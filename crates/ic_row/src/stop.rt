@@ -1,4 +1,4 @@
-// Where reading stopped.
+// At which byte reading stopped.
 ghost use Rattle.std.specs.Prelude.{◌≡◌};
 ghost use Rattle.ic_row.specs.declared.stop.Stop.TheVariants.{NoMemory};
 
@@ -7,7 +7,7 @@ use std::alloc::{AllocError, AllocFailed};
 /// Why reading stopped before the end.
 #[derive(Clone, Copy, Debug, PartialEq, Eq)]
 pub enum Stop {
-    /// So many bytes are left where something can't be read.
+    /// Something can't be read, and this many bytes are left from its beginning.
     Left(usize),
     NoMemory,
 }

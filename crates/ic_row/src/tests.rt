@@ -6,7 +6,7 @@ use ic_base::Text;
 use std::alloc::{AllocError, Global};
 use std::test::*;
 
-/// A null, the int -1 and a text of two bytes. `vectors/row.txt` has it in words.
+/// A null, the int -1 and a text of two bytes. `vectors/row.txt` explains each byte.
 const THREE: [u8; 19] = [
     0, 3, 0, 1, 255, 255, 255, 255, 255, 255, 255, 255, 2, 0, 0, 0, 2, 0xc3, 0xa9,
 ];

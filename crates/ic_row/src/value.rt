@@ -5,18 +5,18 @@ ghost use Rattle.ic_row.specs.Values.{is_null, kind_of, Presents};
 use ic_base::Text;
 use std::alloc::{AllocError, Global};
 
-/// One value of a row. Two values are equal only with the same kind and content: int 5 and wide 5 differ.
+/// One value of a row. Two values are equal only if kind and content are the same: int 5 and wide 5 differ.
 #[derive(Drop, Debug)]
 pub enum Value {
-    /// No value. SQL's null.
+    /// SQL's null: no value.
     Null,
     Int(i64),
-    /// A sum, which passes 64 bits.
+    /// A sum of ints, which can pass 64 bits.
     Wide(i128),
     Chars(Text),
 }
 
-/// What a column holds, nulls aside.
+/// The kind of a column's values. A null has no kind.
 #[derive(Clone, Copy, Debug, PartialEq, Eq)]
 pub enum Kind {
     Int,
@@ -31,7 +31,7 @@ impl Value {
         matches!(self, Value::Null)
     }
 
-    /// The value itself, and `None` of a null.
+    /// The value, or `None` if it is null.
     pub fn present(&self) -> Option<&Value>
         ensures { Presents result self.now }
     {
@@ -41,7 +41,7 @@ impl Value {
         }
     }
 
-    /// Its kind, and `None` of a null.
+    /// The kind, or `None` if the value is null.
     pub fn kind(&self) -> Option<Kind>
         ensures { result ≡ kind_of self.now }
     {
@@ -53,7 +53,7 @@ impl Value {
         }
     }
 
-    /// The same value again. A text takes memory of its own.
+    /// A copy of the value. Only a text takes memory: its bytes are copied once.
     pub fn copy(&self, alloc: Global) -> Result<Value, AllocError>
         ensures { IfOk result (λ v. v ≡ self.now) }
     {

@@ -1,4 +1,4 @@
-// A row as bytes.
+// Writing a row as bytes.
 ghost use Rattle.std.specs.Prelude.{◌≡◌, ◌∷◌, ◌++◌, ◌<◌, ◌^◌, length, IfOk, OnOk};
 ghost use Rattle.ic_row.specs.Spelling.{HasLengths, FitsLength, int_spelling, text_spelling, wide_spelling, value_spelling, spelling_of, IsValue, Spells};
 ghost use Rattle.std.specs.Int.{w64, w128};
@@ -9,7 +9,7 @@ use crate::value::Value;
 use ic_base::Bytes;
 use std::alloc::{AllocError, Global};
 
-/// The room asked for at first is for ints alone: a tag and eight bytes each.
+/// The bytes of an int: a tag and eight more. The first allocation has room for as many ints as there are values.
 const INT_BYTES: usize = 9;
 
 fn put_tagged(out: &mut Vec<u8>, tag: u8, bytes: &[u8]) -> Result<(), AllocError>
@@ -57,15 +57,15 @@ fn put_value(out: &mut Vec<u8>, value: &Value) -> Result<(), AllocError>
     }
 }
 
-/// The spelling of a row: u16 number of values, then each value by its tag byte. Big-endian. One row has one spelling.
-/// The hash of a row and the chunks' bodies are over these bytes.
+/// The spelling of a row: the number of values in two bytes, then each value after its tag byte. Big-endian. A row has
+/// exactly one spelling. The hash of a row and the bodies of chunks are made from these bytes.
 ///
-/// Each byte is written once, texts by slices.
+/// Each byte is written once. Fails only if out of memory.
 #[tactic(auto, unfolding(crate::specs::Spelling::spelling_of))]
 pub fn spell(alloc: Global, row: &Row) -> Result<Bytes, AllocError>
     requires { HasLengths row.now }
     ensures ok { IfOk result (λ bytes. bytes ≡ spelling_of row.now) }
-    // What was spelled is a row's one spelling, so it is read as this row.
+    // The bytes are the row's one spelling, so they are read back as this row.
     ensures spells { IfOk result (λ bytes. Spells row.now bytes) }
 {
     let mut out = Vec::with_capacity(alloc, 2 + INT_BYTES * row.len())?;

@@ -1,4 +1,4 @@
--- What is freed adds up, and what is tried again rises.
+-- Freed packets add up, and each further try waits longer.
 use Rattle.std.proofs.Common.{◌≡◌, ℕ, zero, suc, ◌+◌, ◌*◌, ◌≤◌, refl, ap, ◌∙◌, arith, Option}
 use Rattle.ic_base.specs.declared.settings.Flow.{Flow}
 use Rattle.ic_base.specs.declared.settings.Flow.TheVariants.{Loss, Capacity}

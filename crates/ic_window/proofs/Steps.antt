@@ -14,7 +14,7 @@ unfolding times
 none_left zero step n le = refl
 none_left (suc k) step n le = absurd (omega arith)
 
--- where a step leads nowhere, all of them do
+-- if one step changes nothing, many steps change nothing
 pub at_rest : (k : ℕ) (step : ℕ → ℕ) (n : ℕ) → step n ≡ n → times k step n ≡ n
 unfolding times
 at_rest zero step n e = refl
@@ -35,7 +35,7 @@ unfolding times
 doubled_grows zero n = omega arith
 doubled_grows (suc k) n = omega (arith, doubled_grows k (2 * n))
 
--- what is doubled five times or more is 64 at least
+-- a number doubled five times or more is at least 64
 pub doubled_is : (k n : ℕ) → 2 ≤ n → n ≤ 64 → min ((n * 2 ^ min k 5) % 18446744073709551616) 64 ≡ min 64 (times k (λ m. 2 * m) n)
 unfolding times
 doubled_is zero n low high = omega arith

@@ -1,4 +1,4 @@
--- What a sender keeps of its window and its waiting time, and what each event makes of it.
+-- What a sender keeps of its window and its waiting time, and what each event does to it.
 use Rattle.std.specs.Prelude.{◌≡◌, ℕ, ◌≤◌, Option, None, Some, IfSome}
 use Rattle.ic_base.specs.declared.settings.Flow.{Flow}
 use Rattle.ic_base.specs.declared.settings.Flow.TheVariants.{Loss, Capacity}
@@ -12,14 +12,14 @@ pub record WindowState : Type 0 where
   pub flow : Flow
   -- in 1/256 packet
   pub window : ℕ
-  -- where slow start ends, in 1/256 packet
+  -- slow start ends here, in 1/256 packet
   pub threshold : ℕ
   -- none before the first sample
   pub round_trip : Option RoundTrip
 
 -- ---- events
 
--- with flow loss what an event makes of a window, and with flow capacity the window as it was
+-- what the event does with flow loss; with flow capacity the window stays as it was
 abbrev pub by_flow : Flow → WindowState → WindowState → WindowState
 by_flow Loss moved still = moved
 by_flow Capacity moved still = still
@@ -36,21 +36,21 @@ fresh depth flow = record { depth = depth; flow = flow; window = fresh_window de
 abbrev pub grown : ℕ → WindowState → WindowState
 grown packets w = by_flow w.flow (record w { window = times packets (wider w.depth w.threshold) w.window }) w
 
--- a packet was lost
+-- packets were lost
 abbrev pub lost : WindowState → WindowState
 lost w = by_flow w.flow (record w { window = 256; threshold = halved w.window }) w
 
--- a packet was answered after this time
+-- a packet was answered after this many ticks
 abbrev pub sampled : ℕ → WindowState → WindowState
 sampled ticks w = record w { round_trip = Some (sampled_of (cut ticks) w.round_trip) }
 
--- ---- what holds after each of them
+-- ---- what holds after each event
 
 pub record IsRoundTrip (r : RoundTrip) : Type 0 where
   pub smoothed : r.smoothed ≤ 512
   pub deviation : r.deviation ≤ 256
 
--- The window is never below one packet nor above the depth, and the depth itself with flow capacity.
+-- The window is from one packet to the depth. With flow capacity it is the depth.
 pub record IsWindow (w : WindowState) : Type 0 where
   pub one : 1 ≤ w.depth
   pub most : w.depth ≤ 256

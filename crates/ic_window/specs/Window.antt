@@ -1,7 +1,7 @@
--- How much one sender may have on its way, in 1/256 packet.
+-- How many packets one sender may have in flight, in 1/256 packet.
 use Rattle.std.specs.Prelude.{ℕ, zero, suc, ◌+◌, ◌-◌, ◌*◌, ◌/◌, min, max, nat_lt, if◌then◌else◌}
 
--- a step, this many times
+-- a step repeated this many times
 unfoldable pub times : ℕ → (ℕ → ℕ) → ℕ → ℕ
 times zero step n = n
 times (suc k) step n = times k step (step n)
@@ -10,15 +10,15 @@ times (suc k) step n = times k step (step n)
 abbrev pub widest : ℕ → ℕ
 widest depth = 256 * depth
 
--- One packet was freed. Below the threshold that is slow start: one packet more. From there on it is congestion
--- avoidance: one packet more for each window of packets.
+-- One packet was freed. Below the threshold (slow start) the window grows by one packet. From there on (congestion
+-- avoidance) it grows by one packet for each window of packets freed.
 abbrev pub wider : (depth threshold window : ℕ) → ℕ
 wider depth threshold window = min (widest depth) (window + (if nat_lt window threshold then 256 else 65536 / window))
 
--- the threshold after a loss: half the window, and at least one packet
+-- the threshold after a loss: half the window, but at least one packet
 abbrev pub halved : ℕ → ℕ
 halved window = max (window / 2) 256
 
--- how many more packets may be on their way now
+-- how many more packets may be emitted now
 abbrev pub room_of : (window in_flight capacity : ℕ) → ℕ
 room_of window in_flight capacity = min capacity (window / 256 - in_flight)

@@ -1,17 +1,17 @@
-// Laws of windows and waiting times, each carried by a function that has nothing to run.
+// Laws of windows and waiting times. Each is the contract of a function with an empty body.
 ghost use Rattle.ic_window.specs.Laws.{GrowthAdds, GrowthKeeps, WaitsRise};
 
-/// Packets freed one after the other, or together, make one window.
+/// Freeing packets one after another gives the same window as freeing them together.
 pub fn growth_adds()
     ensures { GrowthAdds }
 {}
 
-/// No window shrinks by what is freed.
+/// Freeing packets never makes a window smaller.
 pub fn growth_keeps()
     ensures { GrowthKeeps }
 {}
 
-/// Each further try waits as long at least, and twice as long at most.
+/// Each further try waits at least as long as the one before, and at most twice as long.
 pub fn waits_rise()
     ensures { WaitsRise }
 {}

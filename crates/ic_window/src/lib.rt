@@ -1,9 +1,9 @@
-//! What one sender may have on its way, and how long it waits for an answer. No packets and no clock: the caller says
-//! what was freed, lost or measured.
+//! How many packets one sender may have in flight (congestion window), and how long it waits for an answer. No packets
+//! and no clock: the caller says what was freed, lost or measured.
 //!
-//! A sender keeps one [`Window`] for its connection. `grown`, `lost` and `sample` are events, `room` and `wait` look.
-//! In an event that frees packets and finds others lost, `sample` and `grown` come first, and `lost` once, after what
-//! is lost was emitted again. Ticks are the caller's count.
+//! A sender keeps one [`Window`] for its connection. `grown`, `lost` and `sample` are events; `room` and `wait` only
+//! look. If one event both frees packets and finds others lost, call `sample` and `grown` first. Call `lost` once,
+//! after the lost packets were emitted again. The caller counts the ticks.
 //!
 //! Below: `ic_base`. Above: senders.
 #![tactic(auto)]

@@ -1,20 +1,20 @@
-// The smoothed round trip.
+// The smoothed round-trip time.
 ghost use Rattle.std.specs.Prelude.{◌≡◌, ◌+◌, ◌/◌, ◌≤◌, min, max, Some};
 ghost use Rattle.ic_window.specs.Waiting.{first_of, later_of, time_of};
 ghost use Rattle.ic_window.specs.State.{IsRoundTrip};
 
-/// The longest time that is waited, in ticks, and so the longest sample that counts.
+/// The longest wait in ticks. A longer sample counts as this.
 pub(crate) const LONGEST: u64 = 64;
 
-/// The shortest time that is waited, in ticks: one for the packet's way and one for the answer's.
+/// The shortest wait in ticks: one for the packet's way and one for the answer's.
 const SHORTEST: u64 = 2;
 
-/// Jacobson's two numbers, in the integer form.
+/// The two estimates of Jacobson's algorithm, as integers.
 #[derive(Clone, Copy, Debug, PartialEq, Eq)]
 pub(crate) struct RoundTrip {
-    /// The smoothed time in 1/8 tick: RFC 6298's SRTT.
+    /// The smoothed time in 1/8 tick: SRTT of RFC 6298.
     pub smoothed: u64,
-    /// The smoothed mean deviation in 1/4 tick: RFC 6298's RTTVAR.
+    /// The smoothed mean deviation in 1/4 tick: RTTVAR of RFC 6298.
     pub deviation: u64,
 }
 
@@ -45,7 +45,7 @@ impl RoundTrip {
         }
     }
 
-    /// The time to wait, in ticks.
+    /// How long to wait, in ticks.
     pub fn time(self) -> u64
         requires { IsRoundTrip self }
         ensures { result ≡ time_of (Some self) }

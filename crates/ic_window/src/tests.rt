@@ -1,9 +1,9 @@
-// Worked rows, and numbers from the rules at the edges.
+// Worked numbers, and edge cases of the rules.
 use super::*;
 use ic_base::Flow;
 use std::test::Fail;
 
-/// How many packets the window holds.
+/// How many packets fit in the window.
 fn packets(window: &Window) -> u32 {
     window.room(0, 1000)
 }
@@ -18,7 +18,7 @@ fn slow_start_ends_at_the_depth_and_after_a_loss_at_half(rt: HostRuntime) {
     }
     window.lost();
     assert_eq!(rt; packets(&window), 1);
-    // 512, 640 and 742, and one more is 830 of 256ths.
+    // The window in 1/256 packet is 512, then 640, then 742, and then 830.
     for wanted in [2, 2, 2, 3] {
         window.grown(1);
         assert_eq!(rt; packets(&window), wanted);

@@ -1,4 +1,4 @@
-// The window and the waiting time.
+// The congestion window and the waiting time.
 ghost use Rattle.std.specs.Prelude.{◌≡◌, ℕ, ◌*◌, ◌/◌, ◌-◌, ◌≤◌, min};
 ghost use Rattle.ic_window.specs.Window.{times, widest, wider, halved, room_of};
 ghost use Rattle.ic_window.specs.Waiting.{time_of, wait_of};
@@ -8,24 +8,25 @@ use crate::round_trip::{LONGEST, RoundTrip};
 use ic_base::Flow;
 use std::marker::Model;
 
-/// One packet in the unit of windows, which is fine enough to grow by less than a packet.
+/// One packet, in the unit of windows. The unit is fine enough to grow by less than a packet.
 const PACKET: u32 = 256;
 
-/// The time to wait before a first sample, in ticks.
+/// How long to wait before the first sample, in ticks.
 const UNKNOWN: u64 = 4;
 
-/// As often as the shortest time, 2 ticks, is doubled to be the longest, 64.
+/// How often the shortest wait, 2 ticks, is doubled until it is the longest, 64.
 const DOUBLINGS: u32 = 5;
 
 /// A sender's congestion window and its waiting time.
 ///
-/// The window follows RFC 5681 sections 3.1 and 3.2, counted in packets: slow start below the threshold, congestion
-/// avoidance from there on. It differs: it starts at one packet, each loss puts it back to one, and the threshold is
-/// half the window, and not half of what is in flight, but at least one packet. There is no fast recovery. With
-/// `Flow::Capacity` it is always the receive depth.
+/// The window follows RFC 5681, sections 3.1 and 3.2, counted in packets: slow start below the threshold, and
+/// congestion avoidance from there on. It differs in three ways. It starts at one packet, and each loss puts it back to
+/// one. The threshold after a loss is half the window, not half of what is in flight, and at least one packet. There is
+/// no fast recovery. With `Flow::Capacity` the window is always the receive depth.
 ///
-/// The waiting time is RFC 6298's RTO with its backoff, in the integer form of Jacobson 1988, appendix A. It differs:
-/// it is kept within 2..=64 ticks, is 4 ticks before a sample, and a sample counts as 64 ticks at most.
+/// The waiting time is the RTO of RFC 6298 with its backoff, in the integer form of Jacobson 1988, appendix A. It
+/// differs in three ways. It is kept within 2..=64 ticks. It is 4 ticks before the first sample. A sample counts as at
+/// most 64 ticks.
 #[derive(Clone, Copy, Debug)]
 pub struct Window {
     /// The receive depth in packets, 1..=256.
@@ -33,9 +34,9 @@ pub struct Window {
     flow: Flow,
     /// In 1/256 packet, from one packet to the depth.
     window: u32,
-    /// Where slow start ends, in 1/256 packet.
+    /// Slow start ends here. In 1/256 packet.
     threshold: u32,
-    /// None before the first sample.
+    /// `None` before the first sample.
     round_trip: Option<RoundTrip>,
 }
 
@@ -84,7 +85,7 @@ fn widened(depth: u32, threshold: u32, window: u32, packets: u32) -> u32
     window
 }
 
-/// A time of 2..=64 ticks doubled this many times, and at most the longest.
+/// A time of 2..=64 ticks, doubled this many times, but at most the longest.
 fn backed_off(time: u64, tries: u32) -> u64
     requires least { 2 ≤ time }
     requires greatest { time ≤ 64 }
@@ -96,7 +97,8 @@ fn backed_off(time: u64, tries: u32) -> u64
 }
 
 impl Window {
-    /// The window of a receiver that keeps `depth` packets, 1..=256: one packet, or the depth with `Flow::Capacity`.
+    /// The first window for a receiver that keeps `depth` packets, 1..=256: one packet, or the depth with
+    /// `Flow::Capacity`.
     pub fn new(depth: u32, flow: Flow) -> Window
         requires least { 1 ≤ depth }
         requires most { depth ≤ 256 }
@@ -115,8 +117,8 @@ impl Window {
         }
     }
 
-    /// An answer freed this many packets. Takes as many steps, until the window is at the depth: some 42,000 at most, at
-    /// a depth of 256.
+    /// An answer freed this many packets. Takes one step a packet until the window is at the depth: at most about
+    /// 42,000, with a depth of 256.
     pub fn grown(&mut self, packets: u32)
         ensures value { self.new ≡ grown packets self.old }
         ensures stands { IsWindow self.new }
@@ -126,7 +128,8 @@ impl Window {
         }
     }
 
-    /// Packets were lost: called once for all that one answer or one tick found. RFC 5681 section 3.1, after a timeout.
+    /// Packets were lost. Call it once for all losses that one answer or one tick found. RFC 5681, section 3.1, after a
+    /// timeout.
     pub fn lost(&mut self)
         ensures value { self.new ≡ lost self.old }
         ensures stands { IsWindow self.new }
@@ -138,8 +141,8 @@ impl Window {
         self.window = PACKET;
     }
 
-    /// A packet was answered this many ticks after it was emitted. Only a packet that was never resent gives a sample:
-    /// Karn's rule, RFC 6298 section 3.
+    /// A packet was answered this many ticks after it was emitted. Give no sample for a packet that was resent (Karn's
+    /// rule, RFC 6298, section 3).
     pub fn sample(&mut self, ticks: u64)
         ensures value { self.new ≡ sampled ticks self.old }
         ensures stands { IsWindow self.new }
@@ -153,7 +156,7 @@ impl Window {
     }
 
     /// How many more packets may be emitted now, at most `capacity`, the receiver's credit. `in_flight` counts packets
-    /// emitted and not yet freed; one that was resent counts once.
+    /// emitted and not yet freed; a packet that was resent counts once.
     pub fn room(&self, in_flight: u32, capacity: u32) -> u32
         ensures { result ≡ room_of self.now.window in_flight capacity }
     {
@@ -162,7 +165,7 @@ impl Window {
             .min(capacity)
     }
 
-    /// The time to wait for an answer, in ticks.
+    /// How long to wait for an answer, in ticks.
     fn time(&self) -> u64
         ensures value { result ≡ time_of self.now.round_trip }
         ensures least { 2 ≤ result }
@@ -174,8 +177,8 @@ impl Window {
         }
     }
 
-    /// How many ticks to wait for the answer to a packet that was resent `tries` times: doubled each time, RFC 6298
-    /// section 5.5.
+    /// How long to wait for the answer to a packet that was resent `tries` times, in ticks: doubled for each (RFC 6298,
+    /// section 5.5).
     pub fn wait(&self, tries: u32) -> u64
         ensures value { result ≡ wait_of tries self.now.round_trip }
         ensures least { 2 ≤ result }

@@ -18,7 +18,7 @@ fn key(session: u32, query: u32, motion: u32) -> ConnKey
     }
 }
 
-/// The connections of two motions of a query of session 7.
+/// Two connections of a query of session 7, of these two motions.
 #[tactic(auto, using(crate::proofs::Apart::two_distinct))]
 fn two(query: u32, first: u32, second: u32) -> [ConnKey; 2]
     requires differ { (first == second) ≡ false }

@@ -10,7 +10,7 @@ use Rattle.ic_header.proofs.Joining.{ok_where, spelled_read}
 use Rattle.ic_header.proofs.Judging.{crc_where, flags_where, len_where, short_where}
 use Rattle.ic_header.proofs.reading.read.Goals as goal
 
--- a fault that was returned is the one that is seen
+-- the returned fault, as a plain value
 faults : {P : Type 0} (bytes : List ℕ) (result : Result (Header × Bor (List ℕ)) HeaderFault) (e : HeaderFault)
     → seen result ≡ read_header bytes → (read_header bytes ≡ Err e) ↔ P → (result ≡ Err e) ↔ P
 faults bytes (Ok r) e given iff = (λ h. absurd cc, λ p. let two = given ∙ iff.1 p in absurd cc)

@@ -2,7 +2,7 @@ use Rattle.std.proofs.Common.{◌≡◌, ◌≤◌}
 use Rattle.ic_window.specs.Window.{times, widest, wider}
 use Rattle.ic_window.proofs.window.widened.Given as goal
 
--- the steps that are left lead where all of them do
+-- the remaining steps lead to the same window as all of them
 abbrev pub invariant-loop-left : goal.invariant-loop-left
 invariant-loop-left l =
     record {
