@@ -31,6 +31,7 @@ LEAST = {
     "no rows sent": 30,
     "a connection of more than 5 packets": 80,
     "a connection of more than 40 packets": 15,
+    "more than 1024 datagrams in a round": 4,
     "resent 1 or 2": 60,
     "resent more than 2": 60,
     "given up in a later query": 8,
@@ -82,6 +83,8 @@ def of_answer(case: Case, document: dict, status: int, text: bytes) -> Counter[s
     found["no rows sent"] += any(tally[5] == b"0" for tally in tallies)
     found["a connection of more than 5 packets"] += any(int(tally[7]) > 5 for tally in tallies)
     found["a connection of more than 40 packets"] += any(int(tally[7]) > 40 for tally in tallies)
+    deep = document.get("settings", {}).get("receive_depth") == 256
+    found["more than 1024 datagrams in a round"] += deep and sum(min(256, int(tally[7])) for tally in tallies) > 1024 and queries == 1
     found["resent 1 or 2"] += any(0 < number < 3 for number in resent)
     found["resent more than 2"] += any(number > 2 for number in resent)
     found["given up in a later query"] += status == 8 and bool(tallies)

@@ -83,8 +83,20 @@ def lossy(rng: random.Random) -> tuple[dict, list[str]]:
     return document, ["sim", drop_word(rng.sample(among, min(len(among), rng.choice([3, 7, 16, 30, 64]))))]
 
 
+def flood(rng: random.Random) -> tuple[dict, list[str]]:
+    """One row a packet, and as many on their way at once as there are: more datagrams than a node receives in a round."""
+    rows = [[i, "a" * 40] for i in range(rng.choice([1100, 1500]))]
+    settings = {"packet": 128, "receive_depth": 256, "send_depth": 256, "flow": "capacity"}
+    table = {"name": "t0", "columns": [["id", "int"], ["c0", "text"]], "rows": rows}
+    document = {"session": 1, "segments": rng.choice([6, 8, 11]), "settings": settings, "tables": [table], "queries": [gather("t0")]}
+    losses = [drop_word(rng.sample(range(1, 4000), 64))] if rng.random() < 0.5 else []
+    return document, ["sim", *losses]
+
+
 def crowded(rng: random.Random) -> tuple[dict, list[str]]:
     """Many rows or many segments: more calls than one round has, and rings that fill."""
+    if rng.random() < 0.1:
+        return flood(rng)
     document = any_document(rng, [300, 500, 900])
     document["tables"] = document["tables"][:2]
     document["segments"] = rng.choice([1, 1, 2, 5, 64])
