@@ -1,4 +1,5 @@
--- After each entry nothing that may go out is left at a sending end that is here; and of an end that never was here there is nothing.
+-- After each entry, a sending end that is here has nothing left that may be emitted; an end that never was here has
+-- nothing at all.
 use Rattle.std.proofs.Common.{◌≡◌, ℕ, zero, suc, ◌+◌, ◌-◌, ◌/◌, ◌<◌, ◌≤◌, min, max, List, [], ◌∷◌, ◌++◌, length, map, Bool, true, false, cond, ◌||◌, Some, Err}
 use Rattle.std.proofs.Common.{refl, ap, sym, ◌∙◌, subst, inl, inr, ◌⊎◌, arith, slice_get}
 use Rattle.std.specs.List.{Contains, flat_map, list_any}
@@ -58,7 +59,7 @@ fresh_top packets n (suc k) fits =
     let more = fresh_top packets (n + 1) k (omega (arith, fits)) in
     omega (arith, both, more)
 
--- what is emitted with an entry reaches the last of the packets that go out for the first time
+-- what an entry emits reaches the last of the packets that go out for the first time
 rows_top : (packets : List Sealed) (again : List ℕ) (n k : ℕ) → (1 ≤ k → n + k ≤ length packets) → 1 ≤ k → n + k ≤ greatest (map number_of (rows_at packets (again ++ numbers_behind n k)))
 rows_top packets again n zero fits some_ = absurd (omega (arith, some_))
 rows_top packets again n (suc k) fits some_ =
@@ -67,13 +68,13 @@ rows_top packets again n (suc k) fits some_ =
     let low = fresh_top packets n k (fits some_) in
     omega (arith, both, low)
 
--- with so many more emitted, there is nothing more that may go out
+-- after this many more are emitted, nothing more may be emitted
 still_none : (l s t r c d w : ℕ) → r ≤ s → c ≤ s → s + min (l - s) (min (d - (s - c)) (w - (s - r))) ≤ t → min (l - t) (min (d - (t - c)) (w - (t - r))) ≡ 0
 still_none l s t r c d w run consumed more = omega (arith, run, consumed, more)
 
 -- ---- an end that is here
 
--- no more was heard than was emitted, and nothing more may go out
+-- no more was heard than was emitted, and nothing more may be emitted
 pub record IsDrained (settings : Settings) (c : ConnKey) (h : List Entry) : Type 0 where
   pub run : run_heard c h ≤ sent_upto c h
   pub consumed : consumed_heard c h ≤ sent_upto c h
@@ -83,7 +84,7 @@ or_parts : (a b : Bool) → (a || b) ≡ false → a ≡ false
 or_parts true b h = h
 or_parts false b h = refl
 
--- a connection that isn't stopped wasn't before
+-- a connection that isn't stopped wasn't stopped before
 pub stopped_before : (c : ConnKey) (h : List Entry) (e : Entry) → stopped_of c (h ++ e ∷ []) ≡ false → stopped_of c h ≡ false
 stopped_before c h e going = or_parts (stopped_of c h) (list_any is_stop (hears c e)) (sym (stopped_of-push c h e) ∙ going)
 
@@ -196,7 +197,7 @@ old_now q h e at = (q, subst (λ l. Contains l q) (sym (left_of-push h e)) (righ
     right : (xs ys : List ℕ) (x : ℕ) → Contains ys x → Contains (xs ++ ys) x
     right xs ys x at = Contains-append_right xs ys x at
 
--- what begins wasn't live, and isn't old
+-- a query that begins wasn't live, and isn't old
 not_before : (place : Place) (q : ℕ) (h : List Entry) (e : Entry) (ends : List ConnEnd) → HubPoint place h e → Starts q ends e → (IsLiveQuery q h → ⊥) × (IsOld q h → ⊥)
 not_before place q h e ends point starts =
     by (point.begin q ends starts.ask (λ memory. let bad : was_begun Memory ≡ true = ap was_begun (sym memory) ∙ starts.begun in cc))

@@ -54,7 +54,7 @@ formed_there place h d law there =
     let w = Contains-flat_map emits h d there in
     (law w.0 w.1 w.2 w.3).formed d w.4
 
--- what is formed reads as its packet
+-- a formed packet is read as itself
 formed_reads : (place : Place) (d : Datagram) (f : IsFormed place d) → packet_of d ≡ Some f.packet
 unfolding packet_of
 formed_reads place d f = ap packet_read (reads_spelled f.packet.head f.packet.body d.bytes f.spelled)

@@ -1,4 +1,5 @@
--- What an entry adds to a sending end: nothing where it isn't here, and else an answer that tells no more than was emitted.
+-- What an entry adds to a sending end: nothing if the end isn't here; otherwise an answer that tells no more than was
+-- emitted.
 use Rattle.std.proofs.Common.{◌≡◌, ◌≢◌, ℕ, zero, suc, ◌+◌, ◌-◌, ◌/◌, ◌%◌, ◌<◌, ◌≤◌, List, [], ◌∷◌, length, take, drop, Bool, true, false, not, cond, ◌&&◌}
 use Rattle.std.proofs.Common.{Option, Some, None, Err, refl, ap, sym, ◌∙◌, subst, inl, inr, arith}
 use Rattle.std.specs.Int.{w32, from_be_bytes}
@@ -73,7 +74,7 @@ upto_by Disorder sent p allowed fine = (
 )
 upto_by Duplicate sent p allowed fine = (at_most p.head.extra sent (λ lt. fine (inr lt)), omega arith)
 
--- a packet that is read has such a body as its kind may have
+-- a packet that is read has a body that its kind allows
 pub body_allowed : (d : Datagram) (p : Packet) → packet_of d ≡ Some p → AllowsBody p.head.flags (length p.body)
 unfolding packet_of header_at
 body_allowed d p reads = by (verdict d.bytes)
@@ -93,7 +94,7 @@ body_allowed d p reads = by (verdict d.bytes)
         let rest : length (drop 64 d.bytes) ≡ length d.bytes - 64 = length-drop 64 d.bytes in
         subst (λ (x : Packet). AllowsBody x.head.flags (length x.body)) one (subst (AllowsBody kind) (sym rest) fine.allowed)
 
--- ---- the answer that a datagram is
+-- ---- the answer in a datagram
 
 pub record IsAnswer (c : ConnKey) (d : Datagram) (p : Packet) : Type 0 where
   pub reads : packet_of d ≡ Some p

@@ -52,7 +52,7 @@ flat_map-append f (e ∷ es) ys = ap (λ l. f e ++ l) (flat_map-append f es ys) 
 pub flat_map-push : {E A : Type 0} (f : E → List A) (es : List E) (e : E) → flat_map f (es ++ e ∷ []) ≡ flat_map f es ++ f e
 flat_map-push f es e = flat_map-append f es (e ∷ []) ∙ ap (λ l. flat_map f es ++ l) (append-nil (f e))
 
--- what is read stands in one of the entries
+-- what is read is in one of the entries
 pub Contains-flat_map : {E A : Type 0} (f : E → List A) (es : List E) (x : A) → Contains (flat_map f es) x
     → (before : List E) × (e : E) × (after : List E) × (es ≡ before ++ e ∷ after) × Contains (f e) x
 Contains-flat_map f [] x h = absurd (Contains-none x h)
@@ -91,7 +91,7 @@ list_any-push f xs x = list_any-append f xs (x ∷ []) ∙ ap (λ b. list_any f 
 
 -- ---- cuts
 
--- the one more stands last, or the place is among the others
+-- the added element is last, or the place is among the others
 pub cut_at : {A : Type 0} (xs : List A) (x : A) (before : List A) (e : A) (after : List A) → xs ++ x ∷ [] ≡ before ++ e ∷ after
     → ((after ≡ []) × (before ≡ xs) × (e ≡ x)) ⊎ ((rest : List A) × (after ≡ rest ++ x ∷ []) × (xs ≡ before ++ e ∷ rest))
 cut_at [] x [] e after h = let same : x ≡ e = cc in let none : after ≡ [] = cc in inl (none, refl, sym same)
@@ -131,7 +131,7 @@ cut_map f (x ∷ xs) (u ∷ us) vs h =
 
 -- ---- places
 
--- a list whose every element stands at the same place of another is a front of it
+-- if every element of a list is at the same place of another list, the first is a front of the second
 pub prefix_by : {A : Type 0} (xs ys : List A) → ((i : ℕ) (x : A) → slice_get xs i ≡ Some x → slice_get ys i ≡ Some x) → IsPrefix xs ys
 prefix_by [] ys h = (ys, refl)
 prefix_by (x ∷ xs) [] h = let bad : None ≡ Some x = h 0 x refl in cc

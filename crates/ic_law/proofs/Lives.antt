@@ -1,4 +1,4 @@
--- Who is live: with one more entry, and that a live query has one list of ends.
+-- Which queries are live: after one more entry; and that a live query has one list of ends.
 use Rattle.std.proofs.Common.{◌≡◌, ◌≢◌, ℕ, List, [], ◌∷◌, ◌++◌, true, Err, refl, ap, sym, ◌∙◌, subst, inl, inr, ◌⊎◌, append_assoc}
 use Rattle.std.specs.List.{Contains}
 use Rattle.std.proofs.lemmas.List.Elements.{Contains-append_cases, Contains-append_left, Contains-append_right}
@@ -27,7 +27,7 @@ every_last P h e every = every h e [] refl
 
 -- ---- one more entry
 
--- a live query is so after an entry that doesn't leave it
+-- a live query stays live after an entry that doesn't leave it
 pub live_push : (q : ℕ) (ends : List ConnEnd) (h : List Entry) (e : Entry) → IsLive q ends h → (Contains (leaves e) q → ⊥) → IsLive q ends (h ++ e ∷ [])
 live_push q ends h e w stays = record {
   before = w.before;
@@ -57,7 +57,7 @@ live_pull q ends h e w =
           )
     ]
 
--- what begins is live
+-- a query that begins is live
 pub live_now : (q : ℕ) (ends : List ConnEnd) (h : List Entry) (e : Entry) → e.ask ≡ Begin q ends → was_begun e.reply ≡ true → IsLive q ends (h ++ e ∷ [])
 live_now q ends h e ask begun = record {
   before = h;
@@ -73,13 +73,13 @@ live_now q ends h e ask begun = record {
 abbrev begin_of : ℕ → List ConnEnd → HubReply → Entry
 begin_of q ends reply = record { ask = Begin q ends; reply = reply }
 
--- what is begun is answered so only where it isn't live
+-- a Begin is answered Ok only if the query isn't live
 not_twice : (q : ℕ) (h : List Entry) (reply : HubReply) → was_begun reply ≡ true → AnswersBegin q h reply → (ends : List ConnEnd) → IsLive q ends h → ⊥
 not_twice q h reply begun (IsOldOne top greatest low is) ends live = let bad : was_begun (Begun (Err (Old top))) ≡ true = ap was_begun (sym is) ∙ begun in cc
 not_twice q h reply begun (IsTwice young live_one is) ends live = let bad : was_begun (Begun (Err Twice)) ≡ true = ap was_begun (sym is) ∙ begun in cc
 not_twice q h reply begun (IsNew young dead is) ends live = dead (ends, live)
 
--- no query begins behind where it began and stays
+-- no query begins again after it began and stays
 not_behind : (place : Place) (h : List Entry) (q : ℕ) (a b : List ConnEnd) → HubLaw place h → (late : IsLive q a h) (early : IsLive q b h) (between : List Entry)
     → late.before ≡ early.before ++ record { ask = Begin q b; reply = early.reply } ∷ between → early.after ≡ between ++ record { ask = Begin q a; reply = late.reply } ∷ late.after → ⊥
 not_behind place h q a b law late early between front back =

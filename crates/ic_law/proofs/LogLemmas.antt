@@ -1,4 +1,4 @@
--- What follows of logs for every history.
+-- Laws of logs, for every history.
 use Rattle.std.proofs.Common.{◌≡◌, ◌≢◌, ℕ, ◌<◌, ◌≤◌, List, [], ◌∷◌, ◌++◌, Bool, true, false, ◌==◌, cond, refl, ap, sym, ◌∙◌, subst, append-nil, arith}
 use Rattle.std.proofs.lemmas.List.Concat.{flat_map-append}
 use Rattle.std.proofs.lemmas.Bool.{ne_eqb}
@@ -15,11 +15,11 @@ use Rattle.ic_law.specs.LogLaws.{LogGrows, NoneYet, OthersPass}
 pub log_grows : LogGrows
 log_grows query h more = flat_map-append (logs query) h more
 
--- where the numbers differ, the choice is the other one
+-- if the numbers differ, the choice is the other one
 other_one : {A : Type 0} (a b : ℕ) (x : List A) → (a ≡ b → ⊥) → cond (a == b) x [] ≡ []
 other_one a b x differ = ap (λ t. cond t x []) (ne_eqb a b differ)
 
--- an ask of another query's worker adds nothing
+-- a call of another query's worker adds nothing
 silent_of : (other query : ℕ) (asked : HubAsk) (replied : HubReply) → IsOf other asked → other ≢ query → logs_by query asked replied ≡ []
 silent_of other query (Begin q ends) replied is differ = refl
 silent_of other query (Put key chunk) replied is differ = other_one key.query query _ (λ same. differ (sym is ∙ same))

@@ -1,4 +1,4 @@
--- The datagrams that the ends of a connection make read back as what they were made of.
+-- The datagrams that the ends of a connection make are read as what they were made of.
 use Rattle.std.proofs.Common.{lit<, ◌≡◌, ℕ, ◌+◌, ◌<◌, ◌≤◌, ◌^◌, ℤ, pos, negsuc, zero, suc, List, [], ◌∷◌, length, Bool, true, false, cond, ◌&&◌, Some, refl, ap}
 use Rattle.std.proofs.Common.{◌∙◌, subst, arith, append-nil}
 use Rattle.std.specs.Prelude.{◌≤ℤ◌, leb, T, FitsSigned}

@@ -1,4 +1,4 @@
--- The kind of a packet that a datagram is, by the header that its bytes begin with.
+-- The kind of the packet in a datagram, by the header with which its bytes begin.
 use Rattle.std.proofs.Common.{◌≡◌, ℕ, zero, suc, ◌+◌, ◌*◌, ◌<◌, ◌^◌, List, [], ◌∷◌, ◌++◌, length, get_or, take, drop, Bool, true, false, cond, ◌||◌, ◌==◌}
 use Rattle.std.proofs.Common.{nat_lt, Option, Some, None, Result, Ok, Err, refl, sym, ap, ◌∙◌, arith, lit<}
 use Rattle.std.specs.List.{flat_map, list_any}
@@ -17,7 +17,7 @@ use Rattle.ic_header.proofs.FlagWords.{flags_of-flags_word}
 use Rattle.ic_header.specs.Packets.{Packet, packet_read, packet_of}
 use Rattle.ic_law.specs.Storing.{tells_stored, packet_tells_stored, datagram_tells_stored}
 
--- a word of 32 bits stands at its place, whatever the others are
+-- a word of 32 bits is at its place, whatever the others are
 word_alone : (ws rest : List ℕ) (k : ℕ) → k < length ws → get_or ws k 0 < 2 ^ 32 → word_at (flat_map (to_be_bytes w32) ws ++ rest) k ≡ get_or ws k 0
 unfolding word_at
 word_alone [] rest k lt fits = absurd (omega (arith, lt))
@@ -69,7 +69,7 @@ read_kind bytes h body e = by (nat_lt (length bytes) 64) (word_at bytes 11 == 0)
     by false true None is = let bad : Err fault.Flags ≡ done (h, body) = is in absurd cc
     by false true (Some kind) is = fine (len_fits bytes kind) kind is
 
--- a datagram that begins with a header is of its kind, where it reads as a packet
+-- a datagram that begins with a header is of the header's kind, if it is read as a packet
 pub packet_kind : (d : Datagram) (p : Packet) (h : Header) (body : List ℕ) → packet_of d ≡ Some p → d.bytes ≡ written h ++ body → p.head.flags ≡ h.flags
 unfolding packet_of
 packet_kind d p h body reads is = by (read_header d.bytes) refl reads
@@ -83,7 +83,7 @@ packet_kind d p h body reads is = by (read_header d.bytes) refl reads
         ap (λ (q : Packet). q.head.flags) (sym same) ∙ some_is x.0.flags h.flags (sym (read_kind d.bytes x.0 x.1 read) ∙ ap (λ l. flags_of (word_at l 12)) is ∙ written_kind h body)
     by (Err f) read e = let bad : None ≡ Some p = e in absurd cc
 
--- a datagram of another kind than Ack and Disorder doesn't tell that a packet is stored
+-- a datagram of another kind than Ack and Disorder doesn't tell that a packet was stored
 pub not_telling : (d : Datagram) (h : Header) (body : List ℕ) → d.bytes ≡ written h ++ body → tells_stored h.flags ≡ false → list_any datagram_tells_stored (d ∷ []) ≡ false
 not_telling d h body is none = by (packet_of d) refl
   where

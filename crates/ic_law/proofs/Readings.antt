@@ -1,4 +1,4 @@
--- What one more entry adds to a history, and what readings of datagrams tell.
+-- What one more entry adds to a history, and what reading a datagram tells.
 use Rattle.std.proofs.Common.{◌≡◌, ℕ, List, [], ◌∷◌, ◌++◌, Bool, true, false, cond, ◌&&◌, ◌||◌, ◌==◌, max, map, Option, Some, None, Ok, Err, refl, ap, sym, ◌∙◌}
 use Rattle.std.proofs.Common.{subst, inl, inr, ◌⊎◌, append_assoc, append-nil, arith}
 use Rattle.std.specs.List.{Contains, flat_map, list_any}

@@ -1,4 +1,4 @@
--- Chunks that assemble do so in whatever payloads they are put, and with the end of stream behind them.
+-- Chunks that assemble do so however they are distributed over payloads, and with the end of stream after them.
 use Rattle.std.proofs.Common.{◌≡◌, ℕ, List, [], ◌∷◌, ◌++◌, map, Bool, true, false, refl, ap, sym, ◌∙◌, subst, append_assoc, append-nil}
 use Rattle.ic_row.specs.declared.value.Value.{Value}
 use Rattle.ic_chunk.specs.Chunks.{Chunk, spelled, payload_of, end_of_stream}
@@ -44,7 +44,7 @@ grouped (g ∷ gs) tail chunks h =
       tail_is = r.tail_is;
     }
 
--- the end of stream behind whole rows
+-- the end of stream after whole rows
 front_ended : (xs : List Chunk) (rows : List (List Value)) (rest : List ℕ) → IsFront xs rows rest false → rest ≡ [] → IsFront (xs ++ end_of_stream ∷ []) rows rest true
 front_ended xs rows rest h none =
     let parts : xs ≡ h.parts = h.all ∙ append-nil h.parts in
@@ -78,7 +78,7 @@ regrouped gs rows rest ended a =
     no_chunks [] h = refl
     no_chunks (c ∷ cs) h = absurd (not_nil c (payload_of cs) h)
 
--- chunks in groups, the last of them with the end of stream behind it
+-- chunks in groups, the last of them with the end of stream after it
 pub regrouped_whole : (gs : List (List (List ℕ))) (last : List (List ℕ)) (rows : List (List Value)) (rest : List ℕ) → Assembles (together gs ++ last) rows rest false → rest ≡ []
     → Assembles (map together gs ++ (together last ++ spelled end_of_stream) ∷ []) rows rest true
 regrouped_whole gs last rows rest a none =

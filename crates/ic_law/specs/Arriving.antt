@@ -1,4 +1,4 @@
--- What a hub makes of a datagram that comes, and of asks that begin, clear and leave queries.
+-- What a hub replies to a datagram that comes, and to calls that begin, clear and leave queries.
 use Rattle.std.specs.Prelude.{◌≡◌, ◌≢◌, ℕ, ◌≤◌, ◌⊎◌, ℤ, ◌<ℤ◌, ◌≤ℤ◌, List, [], ◌∷◌, ◌++◌, Bool, true, false, not, Some, None, Option, Ok, Err, Contains}
 use Rattle.ic_base.specs.declared.keys.ConnKey.{ConnKey}
 use Rattle.ic_base.specs.declared.keys.ConnEnd.{ConnEnd}
@@ -28,14 +28,15 @@ use Rattle.ic_law.specs.Receiving.{handled, IsNext, IsTaken}
 abbrev pub IsLiveQuery : ℕ → List Entry → Type 0
 IsLiveQuery query h = (ends : List ConnEnd) × IsLive query ends h
 
--- a query, or one with a greater number, was left
+-- the query, or one with a greater number, was left
 abbrev pub IsOld : ℕ → List Entry → Type 0
 IsOld query h = (left : ℕ) × Contains (left_of h) left × (query ≤ left)
 
 -- ---- datagrams
 
--- A datagram of none of this hub's connections: its header names no segment, it isn't to this one, its ends aren't
--- those that its header has for its direction, it is of another session, or of a live query without this connection.
+-- A datagram on none of this hub's connections, for one of these reasons: its header names no segment; it isn't to this
+-- segment; it doesn't go between the ends in its header, in its direction; it is of another session; or its query is
+-- live, but without this connection.
 pub data IsForeign (place : Place) (h : List Entry) (d : Datagram) (head : Header) : Type 0 where
   NoSegment : (IsSegment head.src_content × IsSegment head.dst_content → ⊥) → IsForeign place h d head
   NotHere : d.to ≢ place.at → IsForeign place h d head
@@ -43,13 +44,13 @@ pub data IsForeign (place : Place) (h : List Entry) (d : Datagram) (head : Heade
   OtherSession : head.session ≢ place.session → IsForeign place h d head
   NoSuchKey : IsLiveQuery head.query h → ((end : ConnEnd) → IsHere end h → end.key ≢ key_of head) → IsForeign place h d head
 
--- the answer where there is no connection
+-- the answer to a packet of an unknown connection
 abbrev pub turned_back : Place → Datagram → Header → Flags → Datagram
 turned_back place d head flags = record { from = place.at; to = d.from; bytes = written (turned_header head flags) }
 
--- What a datagram that reads as a packet comes to; no two rules meet one datagram. Of a query that ended, rows and
--- queries are answered Stop. Of one that isn't begun, they are answered Nak. Answers of both are dropped. Of a live
--- query, the end of the connection says what comes.
+-- What happens to a datagram that is read as a packet. No datagram fits two rules. If its query has ended, rows and
+-- status queries are answered by Stop; if its query hasn't begun, by Nak. Answers in such queries are dropped. If its
+-- query is live, the end of the connection decides.
 pub data Arrives (place : Place) (h : List Entry) (d : Datagram) (p : Packet) (reply : HubReply) : Type 0 where
   Stranger : IsForeign place h d p.head → reply ≡ Came (Dropped Foreign) [] → Arrives place h d p reply
   OfEnded : (IsForeign place h d p.head → ⊥) → (IsLiveQuery p.head.query h → ⊥) → goes_forth p.head.flags ≡ true → IsOld p.head.query h
@@ -59,9 +60,9 @@ pub data Arrives (place : Place) (h : List Entry) (d : Datagram) (p : Packet) (r
   TooLate : (IsForeign place h d p.head → ⊥) → (IsLiveQuery p.head.query h → ⊥) → goes_forth p.head.flags ≡ false → reply ≡ Came (Dropped Late) [] → Arrives place h d p reply
   Known : (IsForeign place h d p.head → ⊥) → (end : ConnEnd) → IsHere end h → end.key ≡ key_of p.head → end.sending ≡ not (goes_forth p.head.flags) → Arrives place h d p reply
 
--- ---- asks on what isn't there
+-- ---- calls on ends that aren't there
 
--- no live query has an end of this key with this side
+-- no live query has an end with this key and this side
 abbrev pub IsUnknownKey : Bool → ConnKey → List Entry → Type 0
 IsUnknownKey sending key h = (end : ConnEnd) → IsHere end h → end.key ≡ key → end.sending ≡ sending → ⊥
 
@@ -75,7 +76,7 @@ pub record IsOfMotion (query motion : ℕ) (end : ConnEnd) (h : List Entry) : Ty
 abbrev pub unknown : ℕ → ℕ → HubNo
 unknown query motion = refused.Unknown query motion
 
--- Unknown is answered exactly where there is no such end, and before all other refusals
+-- If there is no such end, the answer is Unknown, before all other refusals. Only Memory may come instead.
 pub record KnowsEnds (before : List Entry) (e : Entry) : Type 0 where
   pub put : (key : ConnKey) (chunk : List ℕ) → e.ask ≡ Put key chunk → IsUnknownKey true key before → e.reply ≢ Memory → e.reply ≡ Gave (Err (unknown key.query key.motion))
   pub finish : (key : ConnKey) → e.ask ≡ Finish key → IsUnknownKey true key before → e.reply ≢ Memory → e.reply ≡ Gave (Err (unknown key.query key.motion))
@@ -93,7 +94,7 @@ pub record IsReady (query motion : ℕ) (before : List Entry) (end : ConnEnd) : 
   pub packet : RowPacket
   pub next : IsNext end.key before packet
 
--- the entry is a take of this motion that serves this sender
+-- the entry is a take of this motion, and its parcel is from this sender
 pub record IsServed (query motion : ℕ) (e : Entry) (from : ℤ) : Type 0 where
   pub parcel : Parcel
   pub ds : List Datagram
@@ -101,19 +102,20 @@ pub record IsServed (query motion : ℕ) (e : Entry) (from : ℤ) : Type 0 where
   pub reply : e.reply ≡ Took (Ok (parcel, ds))
   pub sender : from ≡ parcel.from
 
--- the sender that a take of this motion served last, where one did
+-- the sender of the last parcel that a take of this motion gave, or None if there was none
 pub data LastServed (query motion : ℕ) (h : List Entry) : Option ℤ → Type 0 where
   Nobody : ((e : Entry) (from : ℤ) → Contains h e → IsServed query motion e from → ⊥) → LastServed query motion h None
   Somebody : (before : List Entry) (e : Entry) (after : List Entry) (from : ℤ) → h ≡ before ++ e ∷ after → IsServed query motion e from
       → ((x : Entry) (other : ℤ) → Contains after x → IsServed query motion x other → ⊥) → LastServed query motion h (Some from)
 
--- behind the one served last, a sender comes before another in cyclic order; at first the least comes first
+-- a comes before b in cyclic order, counted from the sender served last; if there is none, the lesser number comes
+-- first
 abbrev pub ComesBefore : Option ℤ → ℤ → ℤ → Type 0
 ComesBefore None a b = a <ℤ b
 ComesBefore (Some last) a b = ((last <ℤ a) × ((b ≤ℤ last) ⊎ (a <ℤ b))) ⊎ ((a ≤ℤ last) × (b ≤ℤ last) × (a <ℤ b))
 
--- What a take from any sender of a motion that is there is answered: Ended where all of them are ended, Empty where
--- none of the others has its next packet, else the first in cyclic order of those that have.
+-- The answer to a take from any sender of a motion: Ended if all its senders are ended; Empty if none of the others has
+-- its next packet; otherwise the parcel of the first sender, in cyclic order, that has it.
 pub data AnswersTakeAny (query motion : ℕ) (before : List Entry) (reply : HubReply) : Type 0 where
   AllOver : ((end : ConnEnd) → IsOfMotion query motion end before → IsEnded end.key before) → reply ≡ Took (Err refused.Ended) → AnswersTakeAny query motion before reply
   NoneReady : (open_end : ConnEnd) → IsOfMotion query motion open_end before → (IsEnded open_end.key before → ⊥) → ((end : ConnEnd) → IsReady query motion before end → ⊥)

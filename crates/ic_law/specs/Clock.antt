@@ -19,14 +19,14 @@ abbrev pub ticks_of : List Entry → ℕ
 ticks_of [] = 0
 ticks_of (e ∷ es) = ticks_by e.reply + ticks_of es
 
--- the clock's end, where it stands still
+-- the greatest value of the clock, at which it stays
 unfoldable pub last_tick : ℕ
 last_tick = 18446744073709551488
 
--- the ticks that weren't refused; a refused tick leaves the clock
+-- how many ticks weren't refused, up to the greatest value
 abbrev pub clock_of : List Entry → ℕ
 clock_of h = min last_tick (ticks_of h)
 
--- the next tick
+-- the clock after the next tick
 abbrev pub next_clock : List Entry → ℕ
 next_clock before = min last_tick (ticks_of before + 1)

@@ -1,4 +1,4 @@
--- The law of emission: what each entry of a history emits.
+-- The emission law: what each entry of a history emits.
 use Rattle.std.specs.Prelude.{◌≡◌, ℕ, List, [], ◌∷◌, true, Contains}
 use Rattle.std.specs.List.{flat_map}
 use Rattle.ic_base.specs.declared.datagram.Datagram.{Datagram}
@@ -13,7 +13,8 @@ use Rattle.ic_law.specs.Emitting.{rows_then, queries_then, queries_in}
 use Rattle.ic_law.specs.Spending.{NoneSpent}
 use Rattle.ic_law.specs.Order.{IsInOrder}
 
--- An entry emits exactly these packets of rows and status queries, and a packet of one number is always the same datagram.
+-- The entry emits exactly these packets of rows and status queries, and packets with the same number are the same
+-- datagram.
 pub record EmitsDue (settings : Settings) (end : ConnEnd) (before : List Entry) (e : Entry) : Type 0 where
   pub rows : flat_map (rows_in end.key) (emits e) ≡ rows_then end.key settings before e
   pub row_datagrams : (d : Datagram) (p : RowPacket) → Contains (emits e) d → rows_in end.key d ≡ p ∷ [] → d ≡ row_datagram end p
@@ -21,12 +22,13 @@ pub record EmitsDue (settings : Settings) (end : ConnEnd) (before : List Entry) 
   pub query_datagrams : (d : Datagram) (seq : ℕ) → Contains (emits e) d → queries_in end.key d ≡ seq ∷ [] → d ≡ query_datagram end seq
   pub unspent : ticks_by e.reply ≡ 1 → NoneSpent settings end.key before
 
--- The points of emission of one entry. With any other reply than a tick's, one connection alone emits, and its packets
--- are one list: those that go out again, as a Disorder lists them, and then those that go out for the first time, by number.
+-- What one entry must emit. Except at a tick, only one connection emits. Its packets are one list: first those resent,
+-- in the order in which a Disorder lists them, then those emitted for the first time, by number.
 pub record EmissionPoint (place : Place) (before : List Entry) (e : Entry) : Type 0 where
   pub due : (end : ConnEnd) → end.sending ≡ true → IsHere end before → EmitsDue place.settings end before e
   pub order : ticks_by e.reply ≡ 1 → IsInOrder place.settings before e
 
--- each entry of a history emits what is due on each connection that is sent on here, and a tick in its order
+-- each entry of a history emits what is due on each connection that has its sending end here, and a tick emits it in
+-- the stated order
 abbrev pub EmissionLaw : Place → List Entry → Type 0
 EmissionLaw place h = Every (EmissionPoint place) h

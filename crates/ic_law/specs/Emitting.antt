@@ -19,17 +19,17 @@ abbrev pub listed_then : ConnKey → List Entry → Timing → List Packet → L
 listed_then c now t [] = []
 listed_then c now t (p ∷ ps) = listed_of c now t p
 
--- the packets that an entry emits again: those that a Disorder lists, or those that are due at a tick
+-- the packets that an entry resends: those that a Disorder lists, or at a tick those that are due
 abbrev pub again_numbers : ConnKey → List Entry → Entry → Timing → List ℕ
 again_numbers c before e t =
     if ticks_by e.reply == 0 then listed_then c (before ++ e ∷ []) t (hears c e) else due_numbers (clock_of (before ++ e ∷ [])) t.timers
 
--- and then those that it emits for the first time
+-- these, and then the packets that it emits for the first time
 abbrev pub emitted_numbers : ConnKey → Settings → List Entry → Entry → Timing → List ℕ
 emitted_numbers c settings before e t =
     again_numbers c before e t ++ numbers_behind (sent_upto c before) (fresh_count c settings before (before ++ e ∷ []) (moved c before e t).window)
 
--- none on a stopped connection
+-- the packets of rows that an entry emits: none on a stopped connection
 abbrev pub rows_then : ConnKey → Settings → List Entry → Entry → List RowPacket
 rows_then c settings before e =
     if stopped_of c (before ++ e ∷ []) then [] else
@@ -39,7 +39,7 @@ abbrev pub query_due : ℕ → Option Asked → Bool
 query_due clock None = false
 query_due clock (Some a) = nat_le a.due clock
 
--- a status query that is due at a tick, behind the greatest number emitted
+-- the status query that an entry emits, if it is a tick and the query is due; its number is the greatest number emitted
 abbrev pub queries_then : ConnKey → Settings → List Entry → Entry → List ℕ
 queries_then c settings before e =
     if ticks_by e.reply == 0 then [] else
@@ -59,6 +59,6 @@ abbrev pub queries_read : ConnKey → Option Packet → List ℕ
 queries_read c None = []
 queries_read c (Some p) = if is_query p.head.flags && key_eq (key_of p.head) c then p.head.seq ∷ [] else []
 
--- the number of the status query of c that a datagram is, if it is one
+-- the number in the datagram, if it is a status query of c
 abbrev pub queries_in : ConnKey → Datagram → List ℕ
 queries_in c d = queries_read c (packet_of d)

@@ -31,7 +31,7 @@ abbrev pub answer_read : ConnKey → Option Packet → List Packet
 answer_read c None = []
 answer_read c (Some p) = if goes_forth p.head.flags then [] else (if key_eq (key_of p.head) c then p ∷ [] else [])
 
--- the answer of c that a datagram is, if it is one
+-- the packet in a datagram, if it is an answer of c
 abbrev pub answer_in : ConnKey → Datagram → List Packet
 answer_in c d = answer_read c (packet_of d)
 
@@ -68,7 +68,7 @@ run_by Nak p = 0
 run_by Disorder p = first_listed p - 1
 run_by Duplicate p = p.head.extra
 
--- the run end that an answer tells, and 0 where it tells none
+-- the run end that an answer tells, or 0 if it tells none
 abbrev pub run_told : Packet → ℕ
 run_told p = run_by p.head.flags p
 
@@ -82,7 +82,7 @@ consumed_by Nak p = 0
 consumed_by Disorder p = 0
 consumed_by Duplicate p = 0
 
--- the consumed number that an answer tells, and 0 where it tells none
+-- the consumed number that an answer tells, or 0 if it tells none
 abbrev pub consumed_told : Packet → ℕ
 consumed_told p = consumed_by p.head.flags p
 

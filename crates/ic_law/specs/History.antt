@@ -1,5 +1,5 @@
--- Lists of entries, the datagrams that come and go with them, and the packets of rows among these. Each reading is of
--- one entry, and is joined over the entries.
+-- Lists of entries, the datagrams that come and go with them, and the packets of rows among these. Each is read from
+-- one entry, and joined over all entries.
 use Rattle.std.specs.Prelude.{ℕ, max, List, [], ◌∷◌, ◌++◌, map, ◌&&◌, if◌then◌else◌, Option, Some, None, Ok, Err, slice_get, slice_set}
 use Rattle.std.specs.List.{flat_map}
 use Rattle.ic_base.specs.declared.keys.ConnKey.{ConnKey}
@@ -18,7 +18,7 @@ abbrev pub with_entry : List (List Entry) → ℕ → Entry → Option (List Ent
 with_entry nodes node entry None = nodes
 with_entry nodes node entry (Some history) = slice_set nodes node (history ++ entry ∷ [])
 
--- the histories with one more entry at the node of this place
+-- the histories with one more entry at this node
 abbrev pub noted : List (List Entry) → ℕ → Entry → List (List Entry)
 noted nodes node entry = with_entry nodes node entry (slice_get nodes node)
 
@@ -59,7 +59,7 @@ arrives e = datagram_in e.ask
 abbrev pub emitted_of : List Entry → List Datagram
 emitted_of h = flat_map emits h
 
--- the datagrams that came to it
+-- the datagrams that came to a hub
 abbrev pub arrived_of : List Entry → List Datagram
 arrived_of h = flat_map arrives h
 
@@ -70,7 +70,7 @@ rows_read c None = []
 rows_read c (Some p) =
     if is_rows p.head.flags && key_eq (key_of p.head) c then record { seq = p.head.seq; payload = p.body; last = is_last p.head.flags } ∷ [] else []
 
--- the packet of rows of c that a datagram is, if it is one
+-- the packet of rows in a datagram, if it is one of c
 abbrev pub rows_in : ConnKey → Datagram → List RowPacket
 rows_in c d = rows_read c (packet_of d)
 
@@ -83,7 +83,7 @@ rows_arrived_of c h = flat_map (rows_in c) (arrived_of h)
 abbrev pub number_of : RowPacket → ℕ
 number_of p = p.seq
 
--- the greatest, and 0 of none
+-- the greatest number, or 0 if there is none
 abbrev pub greatest : List ℕ → ℕ
 greatest [] = 0
 greatest (n ∷ ns) = max n (greatest ns)

@@ -1,4 +1,4 @@
--- What one hub may ever answer: one part for each point, of each entry against the entries before it.
+-- The hub law: what one hub may emit and reply. Each point is about one entry, given the entries before it.
 use Rattle.std.specs.Prelude.{◌≡◌, ◌≢◌, ◌⊎◌, ℕ, List, [], ◌∷◌, ◌++◌, true, false, Some, Err, Contains}
 use Rattle.ic_base.specs.declared.keys.ConnKey.{ConnKey}
 use Rattle.ic_base.specs.declared.keys.ConnEnd.{ConnEnd}
@@ -26,7 +26,7 @@ use Rattle.ic_law.specs.Receiving.{Answers}
 use Rattle.ic_law.specs.Sending.{Refuses}
 use Rattle.ic_law.specs.Arriving.{Arrives, KnowsEnds, IsOfMotion, AnswersTakeAny, AnswersBegin, AnswersClear, AnswersLeave, IsLiveQuery}
 
--- ---- replies are of their asks
+-- ---- replies fit their calls
 
 pub data Kind : Type 0 where
   Beginning : Kind
@@ -60,13 +60,13 @@ kind_replied (Cleared r) = Clearing
 kind_replied (Left r) = Leaving
 kind_replied Memory = Refusing
 
--- the reply is of the kind that answers the ask, or Memory
+-- the reply is of the kind that answers the call, or it is Memory
 abbrev pub IsReplyTo : HubAsk → HubReply → Type 0
 IsReplyTo ask reply = (reply ≡ Memory) ⊎ (kind_replied reply ≡ kind_asked ask)
 
--- ---- who asked for what is emitted
+-- ---- why something is emitted
 
--- an ask that can be answered with a packet to the sending end: a take, a halt, or a packet from there that came
+-- a call that can be answered with a packet to a sending end: a take, a halt, or an arrival of a packet from there
 abbrev pub MayAnswer : HubAsk → Type 0
 MayAnswer (Begin query ends) = ⊥
 MayAnswer (Put key chunk) = ⊥

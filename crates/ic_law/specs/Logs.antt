@@ -21,8 +21,8 @@ use Rattle.ic_law.specs.Points.{Place}
 abbrev pub one : PortAsk → PortReply → List PortEntry
 one asked replied = record { ask = asked; reply = replied } ∷ []
 
--- A put or a finish on this connection, by the hub's reply. What a hub never answers to one that is there is no entry, as
--- want of memory is none.
+-- The log entry of a put or a finish on this connection, by the hub's reply. There is none if the call ran out of
+-- memory, nor for a reply that a hub never gives to an end that is there.
 abbrev pub put_logs : PortAsk → ConnKey → HubReply → List PortEntry
 put_logs asked key (Gave (Ok ds)) = one asked reply.Did
 put_logs asked key (Gave (Err no.Full)) = one asked (reply.Refused port.Full)
@@ -40,7 +40,7 @@ put_logs asked key (Cleared r) = []
 put_logs asked key (Left r) = []
 put_logs asked key Memory = []
 
--- a take
+-- the log entry of a take
 abbrev pub take_logs : PortAsk → HubReply → List PortEntry
 take_logs asked (Took (Ok r)) = one asked (reply.Gave r.0)
 take_logs asked (Took (Err no.Empty)) = one asked (reply.Refused port.Empty)
@@ -58,7 +58,7 @@ take_logs asked (Cleared r) = []
 take_logs asked (Left r) = []
 take_logs asked Memory = []
 
--- a halt
+-- the log entry of a halt
 abbrev pub halt_logs : PortAsk → HubReply → List PortEntry
 halt_logs asked (Gave (Ok ds)) = one asked reply.Did
 halt_logs asked (Gave (Err refusal)) = []
@@ -70,7 +70,7 @@ halt_logs asked (Cleared r) = []
 halt_logs asked (Left r) = []
 halt_logs asked Memory = []
 
--- what an ask with its reply adds to the log of the worker of this query
+-- what a call with its reply adds to the log of the worker of this query
 abbrev pub logs_by : ℕ → HubAsk → HubReply → List PortEntry
 logs_by query (Begin q ends) replied = []
 logs_by query (Put key chunk) replied = if key.query == query then put_logs (ask.Put key.motion key.to chunk) key replied else []
@@ -92,9 +92,9 @@ logs query e = logs_by query e.ask e.reply
 abbrev pub log_of : ℕ → List Entry → List PortEntry
 log_of query h = flat_map (logs query) h
 
--- ---- whose asks they are
+-- ---- whose calls they are
 
--- where a worker asks it, it is the worker of this query
+-- if a worker made the call, it is the worker of this query
 abbrev pub IsOf : ℕ → HubAsk → Type 0
 IsOf query (Begin q ends) = Unit {0}
 IsOf query (Put key chunk) = key.query ≡ query
@@ -107,7 +107,7 @@ IsOf query Tick = Unit {0}
 IsOf query (Clear q) = Unit {0}
 IsOf query (Leave q) = Unit {0}
 
--- where a worker asks it, it is the worker of this query or of an earlier one
+-- if a worker made the call, it is the worker of this query or of an earlier one
 abbrev pub IsUpto : ℕ → HubAsk → Type 0
 IsUpto query (Begin q ends) = Unit {0}
 IsUpto query (Put key chunk) = key.query ≤ query
@@ -120,17 +120,17 @@ IsUpto query Tick = Unit {0}
 IsUpto query (Clear q) = Unit {0}
 IsUpto query (Leave q) = Unit {0}
 
--- a connection of this place's session that is sent on from here
+-- a connection of this place's session that begins here
 pub record SendsHere (place : Place) (key : ConnKey) : Type 0 where
   pub session : key.session ≡ place.session
   pub from : key.from ≡ place.at
 
--- one that ends here
+-- a connection of this place's session that ends here
 pub record EndsHere (place : Place) (key : ConnKey) : Type 0 where
   pub session : key.session ≡ place.session
   pub to : key.to ≡ place.at
 
--- where a worker asks it of a connection, that has its side here
+-- if a worker made the call on a connection, the connection has the call's side here
 abbrev pub IsOurs : Place → HubAsk → Type 0
 IsOurs place (Begin q ends) = Unit {0}
 IsOurs place (Put key chunk) = SendsHere place key

@@ -19,25 +19,26 @@ pub record Live : Type 0 where
 abbrev pub query_number : Live → ℕ
 query_number q = q.number
 
--- these are the live queries, by increasing number
+-- these are all live queries, by increasing number
 pub record AreLive (before : List Entry) (live : List Live) : Type 0 where
   pub each : (q : Live) → Contains live q → IsLive q.number q.ends before
   pub all : (number : ℕ) (ends : List ConnEnd) → IsLive number ends before → Contains live (record { number = number; ends = ends })
   pub increase : IsIncreasingFrom 0 (map query_number live)
 
--- what an entry emits of a sending end: its packets of rows, and its status query
+-- what an entry emits on a sending end: its packets of rows, and its status query
 abbrev pub rows_out : Settings → List Entry → Entry → ConnEnd → List Datagram
 rows_out settings before e end = if end.sending then map (row_datagram end) (rows_then end.key settings before e) else []
 
 abbrev pub queries_out : Settings → List Entry → Entry → ConnEnd → List Datagram
 queries_out settings before e end = if end.sending then map (query_datagram end) (queries_then end.key settings before e) else []
 
--- of a query: the packets of rows of its connections in their order, by number, and then the status queries in that order
+-- what it emits for a query: first the packets of rows of each connection, in order and by number; then the status
+-- queries in the same order
 abbrev pub query_out : Settings → List Entry → Entry → Live → List Datagram
 query_out settings before e q = flat_map (rows_out settings before e) q.ends ++ flat_map (queries_out settings before e) q.ends
 
--- What the entry emits is that of the live queries, one after another. All that is due at one tick has the same due, so
--- within a query this is the order by due, by the connection's place, and by number.
+-- The entry emits this for one live query after another. All that is due at one tick has the same due, so within a
+-- query this is the order by due, by the connection's place, and by number.
 pub record IsInOrder (settings : Settings) (before : List Entry) (e : Entry) : Type 0 where
   pub live : List Live
   pub are : AreLive before live

@@ -1,4 +1,4 @@
--- What a hub emits, takes and tells: points on one connection, against the history before.
+-- What a hub emits, takes and tells: points of one connection and one entry, given the entries before it.
 use Rattle.std.specs.Prelude.{◌≡◌, ℕ, ◌+◌, ◌-◌, ◌<◌, ◌≤◌, ◌⊎◌, ℤ, List, [], ◌∷◌, ◌++◌, length, map, Bool, true, false, Option, Some, None, Contains, slice_get}
 use Rattle.std.specs.Int.{w32, to_be_bytes}
 use Rattle.ic_base.specs.declared.keys.ConnKey.{ConnKey}
@@ -21,7 +21,7 @@ use Rattle.ic_law.specs.Hearing.{run_heard, IsStopped}
 use Rattle.ic_law.specs.Queries.{left_of, was_begun}
 use Rattle.ic_law.specs.Filling.{Sealed, plain, final}
 
--- where a hub is
+-- where a hub is: its session, its segment and its settings
 pub record Place : Type 0 where
   pub session : ℕ
   pub at : ℤ
@@ -30,7 +30,7 @@ pub record Place : Type 0 where
 abbrev pub place_at : ℕ → ℤ → Settings → Place
 place_at session at settings = record { session = session; at = at; settings = settings }
 
--- a point of each entry, against the entries before it
+-- each entry has this point, given the entries before it
 abbrev pub Every : (List Entry → Entry → Type 0) → List Entry → Type 0
 Every P h = (before : List Entry) (e : Entry) (after : List Entry) → h ≡ before ++ e ∷ after → P before e
 
@@ -44,12 +44,13 @@ pub record Emits (e : Entry) (c : ConnKey) (flags : Flags) (p : Packet) : Type 0
 
 -- ---- the form of what is emitted
 
--- the datagram travels with the rows of this connection, or against them
+-- the datagram goes in the direction of this connection's rows (true), or against it (false)
 abbrev pub IsDirected : Bool → Datagram → ConnKey → Type 0
 IsDirected true d key = (d.from ≡ key.from) × (d.to ≡ key.to)
 IsDirected false d key = (d.from ≡ key.to) × (d.to ≡ key.from)
 
--- a datagram that a hub there may emit: from here, a header with its body, between the two ends of its connection
+-- a datagram that the hub of this place may emit: from here, a header with its body, between the two ends of its
+-- connection
 pub record IsFormed (place : Place) (d : Datagram) : Type 0 where
   pub packet : Packet
   pub spelled : Heads packet.head packet.body d.bytes
@@ -59,7 +60,7 @@ pub record IsFormed (place : Place) (d : Datagram) : Type 0 where
   pub from : d.from ≡ place.at
   pub ends : IsDirected (goes_forth packet.head.flags) d (key_of packet.head)
 
--- packets of rows of one number are one datagram
+-- packets of rows with the same number are the same datagram
 abbrev pub SameAgain : ConnKey → List Entry → Type 0
 SameAgain c h = (d other : Datagram) (p q : RowPacket) → Contains (emitted_of h) d → Contains (emitted_of h) other
     → rows_in c d ≡ p ∷ [] → rows_in c other ≡ q ∷ [] → p.seq ≡ q.seq → d ≡ other
@@ -78,7 +79,8 @@ chunks_in (Some group) = group
 abbrev pub IsPrefix : {A : Type 0} → List A → List A → Type 0
 IsPrefix {A = A} xs ys = (rest : List A) × (ys ≡ xs ++ rest)
 
--- the packets carry the put chunks in order; the end of stream stands behind all of them, once the stream is finished
+-- The packets carry the put chunks, in order. The end of stream comes after all of them, and only if the stream is
+-- finished.
 pub record Fills (puts : List (List ℕ)) (finished : Type 0) (packets : List Sealed) : Type 0 where
   pub groups : List (List (List ℕ))
   pub end : Option (List (List ℕ))
@@ -86,14 +88,15 @@ pub record Fills (puts : List (List ℕ)) (finished : Type 0) (packets : List Se
   pub front : IsPrefix (together groups ++ chunks_in end) puts
   pub all : (group : List (List ℕ)) → end ≡ Some group → (together groups ++ group ≡ puts) × finished
 
--- packets of rows as they were emitted: numbers 1 to k of these, each first after all lesser ones, and any again
+-- packets of rows as they were emitted: those with the numbers 1 to k, each for the first time after all lesser ones,
+-- and any of them again
 pub record SentUpto (packets : List Sealed) (rows : List RowPacket) (k : ℕ) : Type 0 where
   pub within : k ≤ length packets
   pub each : (p : RowPacket) → Contains rows p → (1 ≤ p.seq) × (p.seq ≤ k) × (slice_get packets (p.seq - 1) ≡ Some (record { payload = p.payload; last = p.last }))
   pub all : (n : ℕ) → 1 ≤ n → n ≤ k → (p : RowPacket) × Contains rows p × (p.seq ≡ n)
   pub order : (front back : List RowPacket) (p : RowPacket) → rows ≡ front ++ p ∷ back → (n : ℕ) → 1 ≤ n → n < p.seq → (q : RowPacket) × Contains front q × (q.seq ≡ n)
 
--- the packets of rows emitted for c are numbers 1 to k of packets that carry what was put
+-- the packets of rows emitted on c are those with the numbers 1 to k, of packets that carry what was put
 pub record Sends (c : ConnKey) (h : List Entry) : Type 0 where
   pub packets : List Sealed
   pub k : ℕ
@@ -102,7 +105,7 @@ pub record Sends (c : ConnKey) (h : List Entry) : Type 0 where
 
 -- ---- what was taken
 
--- a parcel of c is the packet of rows with the next number, which came before
+-- a parcel taken on c is the packet of rows with the next number, which came before
 abbrev pub TakesNext : ConnKey → List Entry → Entry → Type 0
 TakesNext c before e = (p : Parcel) → takes c e ≡ p ∷ []
     → Contains (rows_arrived_of c before) (record { seq = length (parcels_of c before) + 1; payload = p.payload; last = p.last })
@@ -113,7 +116,7 @@ TakesNext c before e = (p : Parcel) → takes c e ≡ p ∷ []
 abbrev pub RunHad : ConnKey → ℕ → List Entry → Type 0
 RunHad c r h = (n : ℕ) → 1 ≤ n → n ≤ r → (q : RowPacket) × Contains (rows_arrived_of c h) q × (q.seq ≡ n)
 
--- an answer names a run that had come with this entry, and an Ack the number of parcels taken with it
+-- an answer tells only of packets that had come by then, and an Ack the number of parcels taken by then
 pub record Tells (c : ConnKey) (now : List Entry) (e : Entry) : Type 0 where
   pub ack : (p : Packet) → Emits e c Ack p → RunHad c p.head.seq now × (p.head.extra ≡ length (parcels_of c now))
   pub duplicate : (p : Packet) → Emits e c Duplicate p → RunHad c p.head.extra now
@@ -121,15 +124,15 @@ pub record Tells (c : ConnKey) (now : List Entry) (e : Entry) : Type 0 where
 
 -- ---- stops and ends
 
--- a Stop comes only after a halt, or after the query or one with a greater number was left
+-- a Stop is emitted only after a halt, or after the query or one with a greater number was left
 abbrev pub StopsAsked : ConnKey → List Entry → Entry → Type 0
 StopsAsked c now e = (p : Packet) → Emits e c Stop p → IsHaltAsked c now ⊎ ((query : ℕ) × Contains (left_of now) query × (c.query ≤ query))
 
--- nothing more is to be taken
+-- there is nothing more to take: everything was taken, or the connection is halted
 abbrev pub IsEnded : ConnKey → List Entry → Type 0
 IsEnded c h = IsWhole c h ⊎ IsHalted c h
 
--- finished, and the packet with the end of stream acknowledged
+-- the stream is finished, and the packet with the end of stream was acknowledged
 pub record IsAcknowledged (c : ConnKey) (h : List Entry) : Type 0 where
   pub finished : IsFinished c h
   pub packet : RowPacket
@@ -137,11 +140,11 @@ pub record IsAcknowledged (c : ConnKey) (h : List Entry) : Type 0 where
   pub last : packet.last ≡ true
   pub heard : packet.seq ≤ run_heard c h
 
--- an end with which its query can be left
+-- an end that doesn't prevent its query from being left
 abbrev pub IsClear : ConnEnd → List Entry → Type 0
 IsClear end h = (end.sending ≡ false → IsEnded end.key h) × (end.sending ≡ true → IsStopped end.key h ⊎ IsAcknowledged end.key h)
 
--- the query was begun with these ends, and not left since
+-- the query began with these ends, and wasn't left since
 pub record IsLive (query : ℕ) (ends : List ConnEnd) (h : List Entry) : Type 0 where
   pub before : List Entry
   pub reply : HubReply
@@ -150,7 +153,7 @@ pub record IsLive (query : ℕ) (ends : List ConnEnd) (h : List Entry) : Type 0 
   pub begun : was_begun reply ≡ true
   pub stays : Contains (left_of after) query → ⊥
 
--- this end is there
+-- the end is one of a live query
 pub record IsHere (end : ConnEnd) (h : List Entry) : Type 0 where
   pub ends : List ConnEnd
   pub live : IsLive end.key.query ends h

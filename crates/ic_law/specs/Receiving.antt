@@ -1,4 +1,4 @@
--- What a receiving end answers, by what it stored and what was taken before.
+-- What a receiving end answers, given what it stored and what was taken before.
 use Rattle.std.specs.Prelude.{◌≡◌, ◌≢◌, ℕ, zero, suc, ◌+◌, ◌-◌, ◌<◌, ◌≤◌, ◌⊎◌, List, [], ◌∷◌, ◌++◌, length, Bool, true, not, filter, ◌==◌, Some, Ok, Err}
 use Rattle.std.specs.Prelude.{Contains}
 use Rattle.std.specs.List.{flat_map, list_any}
@@ -25,21 +25,21 @@ use Rattle.ic_law.specs.Points.{IsDirected, IsEnded, IsHere, TakesNext, Tells, S
 
 -- ---- numbers that came
 
--- the end of the unbroken run of these numbers
+-- r is the end of the unbroken run of these numbers from 1
 pub record IsRunEnd (numbers : List ℕ) (r : ℕ) : Type 0 where
   pub run : (n : ℕ) → 1 ≤ n → n ≤ r → Contains numbers n
   pub end : Contains numbers (r + 1) → ⊥
 
--- the greatest of them
+-- g is the greatest of these numbers
 pub record IsGreatest (numbers : List ℕ) (g : ℕ) : Type 0 where
   pub bound : (n : ℕ) → Contains numbers n → n ≤ g
   pub here : Contains numbers g
 
--- is n among them?
+-- whether n is among the numbers
 abbrev pub has : List ℕ → ℕ → Bool
 has numbers n = list_any (λ m. m == n) numbers
 
--- so many numbers from n on
+-- this many numbers, from n on
 abbrev pub numbers_from : ℕ → ℕ → List ℕ
 numbers_from n zero = []
 numbers_from n (suc count) = n ∷ numbers_from (n + 1) count
@@ -57,9 +57,10 @@ handled d = Came Handled (d ∷ [])
 abbrev pub consumed_of : ConnKey → List Entry → ℕ
 consumed_of c h = length (parcels_of c h)
 
--- What a packet of rows that comes is answered. Halted: Stop. Its number in the run, or stored: Duplicate with the
--- run's end. Past the room, or too long: dropped. The run's next: stored, and Ack with the new end and the number
--- taken. Behind a gap: stored, and Disorder with the greatest stored number and those that are missing below it.
+-- The answer to a packet of rows. If the end is halted: Stop. If the number is in the run, or stored: Duplicate with
+-- the run's end. If the packet is beyond the room, or too long: it is dropped. If it is the next of the run: stored,
+-- and Ack with the new run end and the number of packets taken. If it is after a gap: stored, and Disorder with the
+-- greatest stored number and the missing ones below it.
 pub data AnswersRows (settings : Settings) (end : ConnEnd) (before : List Entry) (q : RowPacket) (reply : HubReply) : Type 0 where
   Stopped : IsHalted end.key before → reply ≡ handled (answer_datagram end Stop q.seq 0 []) → AnswersRows settings end before q reply
   Again : (r : ℕ) → (IsHalted end.key before → ⊥) → IsRunEnd (stored_numbers_of end.key before) r
@@ -80,7 +81,7 @@ pub data AnswersRows (settings : Settings) (end : ConnEnd) (before : List Entry)
       → reply ≡ handled (answer_datagram end Disorder q.seq g (listing (missing (stored_numbers_of end.key before ++ q.seq ∷ []) r g)))
       → AnswersRows settings end before q reply
 
--- what a status query that comes is answered
+-- the answer to a status query
 pub data AnswersQuery (end : ConnEnd) (before : List Entry) (seq : ℕ) (reply : HubReply) : Type 0 where
   QueryStopped : IsHalted end.key before → reply ≡ handled (answer_datagram end Stop seq 0 []) → AnswersQuery end before seq reply
   QueryTold : (r : ℕ) → (IsHalted end.key before → ⊥) → IsRunEnd (stored_numbers_of end.key before) r
@@ -93,7 +94,7 @@ pub record IsNext (c : ConnKey) (before : List Entry) (p : RowPacket) : Type 0 w
   pub stored : Contains (stored_of c before) p
   pub number : p.seq ≡ consumed_of c before + 1
 
--- its parcel is taken, and Ack tells the run's end and the number taken with it
+-- its parcel is taken, and an Ack tells the run's end and the number of packets taken, with this one
 pub record IsTaken (end : ConnEnd) (before : List Entry) (parcel : Parcel) (ds : List Datagram) : Type 0 where
   pub packet : RowPacket
   pub next : IsNext end.key before packet
@@ -104,13 +105,13 @@ pub record IsTaken (end : ConnEnd) (before : List Entry) (parcel : Parcel) (ds :
   pub run_end : IsRunEnd (stored_numbers_of end.key before) run
   pub told : ds ≡ answer_datagram end Ack run (consumed_of end.key before + 1) [] ∷ []
 
--- what a take from this end is answered
+-- the answer to a take from this end
 pub data AnswersTake (end : ConnEnd) (before : List Entry) (reply : HubReply) : Type 0 where
   Over : IsEnded end.key before → reply ≡ Took (Err Ended) → AnswersTake end before reply
   None : (IsEnded end.key before → ⊥) → ((p : RowPacket) → IsNext end.key before p → ⊥) → reply ≡ Took (Err Empty) → AnswersTake end before reply
   Taken : (IsEnded end.key before → ⊥) → (parcel : Parcel) (ds : List Datagram) → IsTaken end before parcel ds → reply ≡ Took (Ok (parcel, ds)) → AnswersTake end before reply
 
--- what a halt of this end is answered: Stop once, and nothing where nothing more is to be taken
+-- the answer to a halt of this end: Stop at first, and nothing if there is nothing more to take
 pub data AnswersHalt (end : ConnEnd) (before : List Entry) (reply : HubReply) : Type 0 where
   HaltedNow : (IsEnded end.key before → ⊥) → reply ≡ Gave (Ok (answer_datagram end Stop 0 0 [] ∷ [])) → AnswersHalt end before reply
   HaltedAgain : IsEnded end.key before → reply ≡ Gave (Ok []) → AnswersHalt end before reply
@@ -134,7 +135,7 @@ pub record IsTaking (c : ConnKey) (p : Parcel) (ds : List Datagram) (e : Entry) 
 
 -- ---- the points of a receiving end
 
--- what each ask that concerns the end is answered; an ask that finds no memory is answered Memory
+-- what each call on this end is answered, unless the reply is Memory
 pub record Answers (settings : Settings) (end : ConnEnd) (before : List Entry) (e : Entry) : Type 0 where
   pub rows : (d : Datagram) (q : RowPacket) → e.ask ≡ Arrive d → IsDirected true d end.key → rows_in end.key d ≡ q ∷ [] → e.reply ≢ Memory
       → AnswersRows settings end before q e.reply
@@ -144,7 +145,7 @@ pub record Answers (settings : Settings) (end : ConnEnd) (before : List Entry) (
   pub take_from : e.ask ≡ TakeFrom end.key → e.reply ≢ Memory → AnswersTake end before e.reply
   pub halt : e.ask ≡ Halt end.key → e.reply ≢ Memory → AnswersHalt end before e.reply
 
--- an entry is lawful for a receiving end
+-- the entry obeys the law for this receiving end
 pub record Receives (settings : Settings) (end : ConnEnd) (before : List Entry) (e : Entry) : Type 0 where
   pub taken : TakesNext end.key before e
   pub told : Tells end.key (before ++ e ∷ []) e

@@ -1,4 +1,4 @@
--- What a sending end answers, by what was put on it and what it heard before.
+-- What a sending end answers, given what was put on it and what it heard before.
 use Rattle.std.specs.Prelude.{◌≡◌, ◌≢◌, ℕ, ◌+◌, ◌^◌, ◌<◌, ◌≤◌, ◌⊎◌, List, [], length, true, false, Some, Ok, Err}
 use Rattle.ic_base.specs.declared.keys.ConnKey.{ConnKey}
 use Rattle.ic_base.specs.declared.keys.ConnEnd.{ConnEnd}
@@ -22,7 +22,8 @@ use Rattle.ic_law.specs.Numbers.{words_in, IsIncreasingFrom, last_or}
 
 -- ---- puts
 
--- Room for one more packet: fewer are kept than the depth, and its number fits in 32 bits.
+-- There is no room for one more packet: as many are kept as the send depth (IsFull), or its number wouldn't fit in 32
+-- bits (IsTooLong).
 abbrev pub IsFull : Settings → ConnKey → List Entry → Type 0
 IsFull settings c before = settings.send_depth ≤ kept_of c settings before
 
@@ -33,7 +34,7 @@ IsTooLong settings c before = 2 ^ 32 ≤ length (sealed_of c settings before) + 
 abbrev pub Fits : Settings → ConnKey → List Entry → List ℕ → Type 0
 Fits settings c before chunk = fits settings.packet (filling_of c settings before).opened chunk ≡ true
 
--- What a put, or a finish, is answered, where it needs a new packet or doesn't. A stopped connection takes nothing more.
+-- The answer to a put or a finish, which may need a new packet or not. A stopped connection takes nothing more.
 pub data AnswersPut (settings : Settings) (end : ConnEnd) (before : List Entry) (needs : Type 0) (reply : HubReply) : Type 0 where
   Stopped : IsStopped end.key before → reply ≡ Gave (Err refused.Stopped) → AnswersPut settings end before needs reply
   Full : (IsStopped end.key before → ⊥) → needs → IsFull settings end.key before → reply ≡ Gave (Err refused.Full) → AnswersPut settings end before needs reply
@@ -59,7 +60,7 @@ IsStrayBy Duplicate sent p = (sent < p.head.seq) ⊎ (sent < p.head.extra)
 abbrev pub IsStray : ConnKey → List Entry → Packet → Type 0
 IsStray c before p = IsStrayBy p.head.flags (sent_upto c before) p
 
--- what an answer that comes is answered, the datagrams aside
+-- the reply when an answer comes, except which datagrams it holds
 pub data AnswersHeard (end : ConnEnd) (before : List Entry) (p : Packet) (reply : HubReply) : Type 0 where
   Unheard : IsStopped end.key before → reply ≡ Came Handled [] → AnswersHeard end before p reply
   Strayed : (IsStopped end.key before → ⊥) → IsStray end.key before p → reply ≡ Came (Dropped cause.Stray) [] → AnswersHeard end before p reply
@@ -67,7 +68,7 @@ pub data AnswersHeard (end : ConnEnd) (before : List Entry) (p : Packet) (reply 
 
 -- ---- the points of a sending end
 
--- what each ask that concerns the end is answered; an ask that finds no memory is answered Memory
+-- what each call on this end is answered, unless the reply is Memory
 pub record Refuses (settings : Settings) (end : ConnEnd) (before : List Entry) (e : Entry) : Type 0 where
   pub put : (chunk : List ℕ) → e.ask ≡ Put end.key chunk → e.reply ≢ Memory → AnswersPut settings end before (Fits settings end.key before chunk → ⊥) e.reply
   pub finish : e.ask ≡ Finish end.key → e.reply ≢ Memory → AnswersPut settings end before (Unit {0}) e.reply

@@ -13,7 +13,7 @@ use Rattle.ic_law.specs.Timing.{timing_of}
 
 -- ---- packets that are given up
 
--- a packet, or a status query, that is due with no resending left
+-- a packet that is due and has no resending left
 abbrev pub has_no_try : Settings → ℕ → Timer → Bool
 has_no_try settings clock x = is_due clock x && (x.tries == settings.retries)
 
@@ -31,7 +31,8 @@ pub record NoneSpent (settings : Settings) (c : ConnKey) (before : List Entry) :
 
 -- ---- which of them a refused tick names
 
--- the packets, and the status query, of an end that are given up at the next tick: their connection and number
+-- the packets of an end that are given up at the next tick, each by its connection and number; and then the status
+-- query
 abbrev pub packets_spent : Settings → List Entry → ConnEnd → List (ConnKey × ℕ)
 packets_spent settings before end =
     if end.sending then map (λ x. (end.key, x.seq)) (spent_timers settings (next_clock before) (timing_of end.key settings before)) else []
@@ -40,12 +41,12 @@ abbrev pub query_spent : Settings → List Entry → ConnEnd → List (ConnKey �
 query_spent settings before end =
     if end.sending && spent_query settings (next_clock before) (timing_of end.key settings before).asked then (end.key, sent_upto end.key before) ∷ [] else []
 
--- of a query: the packets of its connections in their order, by number, and then the status queries. All that is due at
--- one tick has the same due, so this is the order in which a tick serves them.
+-- all that is given up of a query: first the packets of each connection, in order and by number; then the status
+-- queries. All that is due at one tick has the same due, so a tick serves them in this order.
 abbrev pub spent_of : Settings → List Entry → List ConnEnd → List (ConnKey × ℕ)
 spent_of settings before ends = flat_map (packets_spent settings before) ends ++ flat_map (query_spent settings before) ends
 
--- the first that is given up at the next tick, of the live queries by increasing number
+-- the first that is given up at the next tick, by increasing number of the live queries
 pub record IsFirstSpent (settings : Settings) (before : List Entry) (key : ConnKey) (seq : ℕ) : Type 0 where
   pub query : ℕ
   pub ends : List ConnEnd

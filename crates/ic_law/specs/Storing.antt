@@ -12,7 +12,7 @@ use Rattle.ic_law.specs.declared.history.Entry.{Entry}
 use Rattle.ic_header.specs.Packets.{Packet, RowPacket, packet_of}
 use Rattle.ic_law.specs.History.{datagrams_of, rows_in, number_of}
 
--- the answers to a packet that is stored
+-- whether the answer tells that a packet was stored
 abbrev pub tells_stored : Flags → Bool
 tells_stored Rows = false
 tells_stored LastRows = false

@@ -1,4 +1,4 @@
--- The network law, and the stream law, which follows of it and of the laws of the hubs.
+-- The network law, and the stream law, which follows from it and from the hub laws.
 use Rattle.std.specs.Prelude.{◌≡◌, ℕ, zero, suc, ◌+◌, ℤ, pos, negsuc, List, [], Bool, false, Contains, slice_index_or}
 use Rattle.ic_base.specs.declared.keys.ConnKey.{ConnKey}
 use Rattle.ic_base.specs.declared.settings.Settings.{Settings}
@@ -12,22 +12,22 @@ use Rattle.ic_law.specs.Taking.{payloads_of, IsWhole}
 use Rattle.ic_law.specs.Points.{place_at, IsPrefix}
 use Rattle.ic_law.specs.Hub.{HubLaw}
 
--- the place of a segment's history among those of all nodes, which begin with the dispatcher's
+-- the position of a segment's history among those of all nodes, which begin with the dispatcher's
 abbrev pub node_of : ℤ → ℕ
 node_of (pos n) = n + 1
 node_of (negsuc n) = 0
 
--- the history of a segment; none but the dispatcher's stands for a number below it
+-- the history of a segment; -1 is the dispatcher's, and a lesser number has no entries
 abbrev pub history_of : List (List Entry) → ℤ → List Entry
 history_of nodes (pos n) = slice_index_or nodes (n + 1) []
 history_of nodes (negsuc zero) = slice_index_or nodes 0 []
 history_of nodes (negsuc (suc n)) = []
 
--- each datagram that came to a segment was to it, and was emitted by the one that it is from
+-- each datagram that came to a segment was addressed to it, and was emitted by the segment that it is from
 abbrev pub NetworkLaw : List (List Entry) → Type 0
 NetworkLaw nodes = (b : ℤ) (d : Datagram) → Contains (arrived_of (history_of nodes b)) d → (d.to ≡ b) × Contains (emitted_of (history_of nodes d.from)) d
 
--- the rows sent: the chunks that were put assemble to them, and where the stream was finished nothing of a row is left
+-- the rows sent: the chunks that were put assemble to them, and if the stream is finished, no unfinished row is left
 pub record AreSent (c : ConnKey) (h : List Entry) (rows : List (List Value)) : Type 0 where
   pub rest : List ℕ
   pub assemble : Assembles (chunks_put_of c h) rows rest false
@@ -39,18 +39,20 @@ pub record AreTaken (c : ConnKey) (h : List Entry) (rows : List (List Value)) : 
   pub ended : Bool
   pub assemble : Assembles (payloads_of c h) rows rest ended
 
--- what was taken are rows, a front of those sent, and all of them where the end was taken
+-- the payloads taken assemble to rows; these are a prefix of the rows sent, and all of them if the end of stream was
+-- taken
 pub record Follows (c : ConnKey) (sender receiver : List Entry) (sent : List (List Value)) : Type 0 where
   pub rows : List (List Value)
   pub taken : AreTaken c receiver rows
   pub prefix : IsPrefix rows sent
   pub whole : IsWhole c receiver → rows ≡ sent
 
--- whatever rows were sent, those taken follow them
+-- for all rows sent, those taken follow them
 abbrev pub StreamLaw : ConnKey → (sender receiver : List Entry) → Type 0
 StreamLaw c sender receiver = (sent : List (List Value)) → AreSent c sender sent → Follows c sender receiver sent
 
--- where the network gives only what was emitted, and each hub keeps its law, each connection of the session has the stream law
+-- if the network delivers only what was emitted, and each hub obeys its law, then each connection of the session obeys
+-- the stream law
 abbrev pub StreamsFollow : Type 0
 StreamsFollow =
     (nodes : List (List Entry)) (session : ℕ) (settings : Settings)

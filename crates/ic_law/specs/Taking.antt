@@ -1,4 +1,4 @@
--- What was taken of a connection, and whether it was halted.
+-- What was taken on a connection, and whether it was halted.
 use Rattle.std.specs.Prelude.{◌≡◌, ℕ, ℤ, List, [], ◌∷◌, ◌++◌, map, Bool, true, false, ◌&&◌, ◌==◌, if◌then◌else◌, Ok, Err}
 use Rattle.std.specs.List.{flat_map, list_any}
 use Rattle.std.specs.Ordering.{int_eq}
@@ -25,7 +25,7 @@ parcels_in (Cleared r) = []
 parcels_in (Left r) = []
 parcels_in Memory = []
 
--- those that are from this segment
+-- those from this segment
 abbrev pub parcels_from : ℤ → List Parcel → List Parcel
 parcels_from from [] = []
 parcels_from from (p ∷ ps) = if int_eq p.from from then p ∷ parcels_from from ps else parcels_from from ps
@@ -45,7 +45,7 @@ parcel_for c (Leave query) reply = []
 abbrev pub takes : ConnKey → Entry → List Parcel
 takes c e = parcel_for c e.ask e.reply
 
--- the parcels that were taken of c, in order
+-- the parcels that were taken on c, in order
 abbrev pub parcels_of : ConnKey → List Entry → List Parcel
 parcels_of c h = flat_map (takes c) h
 

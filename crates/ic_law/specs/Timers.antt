@@ -1,4 +1,4 @@
--- The packets on their way of a sending end and its status query: what an answer and a tick make of them.
+-- The packets in flight of a sending end, and its status query: what an answer and a tick change.
 use Rattle.std.specs.Prelude.{ℕ, ◌-◌, List, [], ◌∷◌, map, Bool, true, false, ◌&&◌, ◌==◌, if◌then◌else◌, Option, None, ◌+◌, nat_le, nat_lt, filter}
 use Rattle.std.specs.List.{list_any}
 use Rattle.ic_base.specs.declared.keys.ConnKey.{ConnKey}
@@ -14,26 +14,26 @@ use Rattle.ic_law.specs.Numbers.{words_in}
 use Rattle.ic_law.specs.Hearing.{run_heard}
 use Rattle.ic_law.specs.Clock.{clock_of}
 
--- ---- what is kept of a sending end
+-- ---- what a sending end keeps
 
 -- a packet that was emitted and isn't acknowledged
 pub record Timer : Type 0 where
   pub seq : ℕ
-  -- the tick at which it is emitted again
+  -- the tick at which it is resent
   pub due : ℕ
-  -- how often ticks emitted it again since the last answer that names it
+  -- how often ticks resent it since the last answer that names it
   pub tries : ℕ
   -- the tick at which it was first emitted
   pub since : ℕ
-  -- whether it was emitted again
+  -- whether it was resent
   pub resent : Bool
 
--- a status query that is to be emitted at a tick, and how often it was since the last answer
+-- a pending status query: when it is emitted, and how often it was since the last answer
 pub record Asked : Type 0 where
   pub due : ℕ
   pub tries : ℕ
 
--- the window with the waiting time, the packets on their way by number, and the status query
+-- the window with the waiting time, the packets in flight by number, and the status query
 pub record Timing : Type 0 where
   pub window : WindowState
   pub timers : List Timer
@@ -42,20 +42,20 @@ pub record Timing : Type 0 where
 abbrev pub fresh_timing : Settings → Timing
 fresh_timing settings = record { window = fresh settings.receive_depth settings.flow; timers = []; asked = None }
 
--- the ticks to wait for an answer, after so many tries
+-- how many ticks to wait for an answer, after this many tries
 abbrev pub wait_in : WindowState → ℕ → ℕ
 wait_in w tries = wait_of tries w.round_trip
 
 -- ---- an answer that is heard
 
--- how many packets are newly freed
+-- how many packets the answer newly frees
 abbrev pub freed_by : ConnKey → List Entry → List Entry → ℕ
 freed_by c before now = run_heard c now - run_heard c before
 
 abbrev pub timer_of : ℕ → List Timer → List Timer
 timer_of seq timers = filter (λ t. t.seq == seq) timers
 
--- the time of the greatest freed packet is a sample, where it was never emitted again
+-- the time of the greatest freed packet is a sample, if it was never resent
 abbrev pub sample_by : ℕ → List Timer → WindowState → WindowState
 sample_by clock [] w = w
 sample_by clock (t ∷ ts) w = if t.resent then w else sampled (clock - t.since) w
@@ -65,7 +65,7 @@ freed_window c before now t =
     if freed_by c before now == 0 then t.window else
     sample_by (clock_of now) (timer_of (run_heard c now) t.timers) (grown (freed_by c before now) t.window)
 
--- those that aren't freed
+-- the packets in flight that aren't freed
 abbrev pub kept_timers : ConnKey → List Entry → Timing → List Timer
 kept_timers c now t = filter (λ x. nat_lt (run_heard c now) x.seq) t.timers
 
@@ -79,7 +79,7 @@ names_its_number Nak = true
 names_its_number Disorder = true
 names_its_number Duplicate = true
 
--- the packet that the answer names has no tries
+-- the packet that the answer names has no tries any more
 abbrev pub named : Packet → Timer → Timer
 named p x = if names_its_number p.head.flags && (x.seq == p.head.seq) then record x { tries = 0 } else x
 
@@ -96,7 +96,7 @@ listed_by Duplicate p = []
 abbrev pub is_among : List Timer → ℕ → Bool
 is_among timers seq = list_any (λ x. x.seq == seq) timers
 
--- the packets that a Disorder lists, of those that are kept and were emitted
+-- the packets that a Disorder lists, as far as they are still in flight
 abbrev pub listed_of : ConnKey → List Entry → Timing → Packet → List ℕ
 listed_of c now t p = filter (is_among (kept_timers c now t)) (listed_by p.head.flags p)
 
@@ -107,11 +107,11 @@ abbrev pub lost_where : List ℕ → WindowState → WindowState
 lost_where [] w = w
 lost_where (n ∷ ns) w = lost w
 
--- a status query that stands is moved
+-- an answer postpones a pending status query
 abbrev pub asked_later : ℕ → WindowState → Asked → Asked
 asked_later clock w a = record { due = clock + wait_in w 0; tries = 0 }
 
--- an answer: what it frees lets the window grow and gives a sample, what it lists is emitted again and shrinks the window
+-- an answer: what it frees lets the window grow and gives a sample; what it lists is resent and shrinks the window
 abbrev pub timing_heard : ConnKey → List Entry → List Entry → Timing → Packet → Timing
 timing_heard c before now t p =
     let w = freed_window c before now t in
@@ -130,14 +130,14 @@ is_due clock x = nat_le x.due clock
 abbrev pub due_numbers : ℕ → List Timer → List ℕ
 due_numbers clock timers = map (λ x. x.seq) (filter (is_due clock) timers)
 
--- emitted again, and due after a longer time
+-- a packet that is due is resent, and then due after a longer time
 abbrev pub tried : ℕ → WindowState → Timer → Timer
 tried clock w x = if is_due clock x then record x { due = clock + wait_in w (x.tries + 1); tries = x.tries + 1; resent = true } else x
 
 abbrev pub asked_again : ℕ → WindowState → Asked → Asked
 asked_again clock w a = if nat_le a.due clock then record { due = clock + wait_in w (a.tries + 1); tries = a.tries + 1 } else a
 
--- a tick emits what is due again, which shrinks the window once, and a status query that is due
+-- a tick resends what is due, which shrinks the window once, and emits a status query that is due
 abbrev pub timing_ticked : ℕ → Timing → Timing
 timing_ticked clock t =
     record {

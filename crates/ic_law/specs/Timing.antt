@@ -1,4 +1,4 @@
--- What a sending end emits for the first time, when a status query stands, and its timing after a history.
+-- What a sending end emits for the first time, when a status query is pending, and the end's timing after a history.
 use Rattle.std.specs.Prelude.{ℕ, ◌-◌, List, [], ◌∷◌, ◌++◌, map, false, ◌&&◌, ◌==◌, if◌then◌else◌, Option, Some, None, slice_get, ◌+◌, min, nat_le, nat_lt, zero}
 use Rattle.std.specs.Prelude.{suc, length}
 use Rattle.std.specs.List.{flat_map}
@@ -16,8 +16,8 @@ use Rattle.ic_law.specs.Timers.{Timer, Asked, Timing, fresh_timing, wait_in, tim
 
 -- ---- what is emitted for the first time
 
--- How many packets an entry emits for the first time: the unsent ones, as many as there is room for in the window and
--- at the receiver.
+-- How many packets an entry emits for the first time: the unsent ones, as far as there is room in the window and at the
+-- receiver.
 abbrev pub fresh_count : ConnKey → Settings → List Entry → List Entry → WindowState → ℕ
 fresh_count c settings before now w =
     min (length (sealed_of c settings now) - sent_upto c before)
@@ -27,11 +27,11 @@ abbrev pub row_at : Option Sealed → ℕ → List RowPacket
 row_at None seq = []
 row_at (Some s) seq = record { seq = seq; payload = s.payload; last = s.last } ∷ []
 
--- the packets of these numbers
+-- the packets with these numbers
 abbrev pub rows_at : List Sealed → List ℕ → List RowPacket
 rows_at packets numbers = flat_map (λ seq. row_at (slice_get packets (seq - 1)) seq) numbers
 
--- so many numbers behind n
+-- this many numbers after n
 abbrev pub numbers_behind : ℕ → ℕ → List ℕ
 numbers_behind n zero = []
 numbers_behind n (suc count) = (n + 1) ∷ numbers_behind (n + 1) count
@@ -49,7 +49,8 @@ abbrev pub standing : ℕ → WindowState → Option Asked → Option Asked
 standing clock w (Some a) = Some a
 standing clock w None = Some (record { due = clock + wait_in w 0; tries = 0 })
 
--- Where nothing is on its way, a packet is unsent and the receiver has no room, a status query stands; room ends it.
+-- If nothing is in flight, a packet is unsent and the receiver has no room, a status query is pending. Room at the
+-- receiver ends it.
 abbrev pub asked_then : ConnKey → Settings → List Entry → ℕ → WindowState → Option Asked → Option Asked
 asked_then c settings now sent w asked =
     if nat_lt 0 (settings.receive_depth - (sent - consumed_heard c now)) then None else
@@ -61,7 +62,7 @@ abbrev pub heard_then : ConnKey → List Entry → List Entry → Timing → Lis
 heard_then c before now t [] = t
 heard_then c before now t (p ∷ ps) = timing_heard c before now t p
 
--- what an answer or a tick makes of the timing, before anything is emitted for the first time
+-- the timing after an answer or a tick, before anything is emitted for the first time
 abbrev pub moved : ConnKey → List Entry → Entry → Timing → Timing
 moved c before e t =
     if ticks_by e.reply == 0 then heard_then c before (before ++ e ∷ []) t (hears c e) else timing_ticked (clock_of (before ++ e ∷ [])) t
@@ -72,7 +73,7 @@ settled c settings before now t =
       asked = asked_then c settings now (sent_upto c before + fresh_count c settings before now t.window) t.window t.asked;
     }
 
--- a stopped connection keeps nothing on its way
+-- a stopped connection has nothing in flight
 abbrev pub cleared : Timing → Timing
 cleared t = record t { timers = []; asked = None }
 

@@ -1,4 +1,4 @@
-// Asks to a hub, its replies, and lists of both.
+// Calls of a hub (asks) with their replies, and lists of both.
 ghost use Rattle.std.specs.Prelude.{◌≡◌, ℕ, List, [], ◌∷◌, ◌++◌, length, replicate, OnOk, OnErr, IfOk, ◌<◌};
 ghost use Rattle.ic_law.specs.History.{noted, datagrams_of};
 
@@ -7,45 +7,45 @@ use ic_header::HeaderFault;
 use std::alloc::{AllocError, Global};
 use std::marker::Model;
 
-/// One ask to the hub of a segment.
+/// A call of the hub of a segment.
 #[derive(Drop)]
 pub enum HubAsk {
-    /// A query begins, with the ends that its connections have at this segment.
+    /// A query begins. `ends` are the ends that its connections have at this segment.
     Begin { query: u32, ends: ConnEnds },
-    /// The slice puts a tuple chunk on a connection that it sends on.
+    /// The slice puts a tuple chunk on a connection on which it sends.
     Put { key: ConnKey, chunk: Bytes },
-    /// The slice puts the end of stream.
+    /// The slice puts the end of stream on a connection.
     Finish { key: ConnKey },
-    /// The slice takes the next parcel of any sender of a motion.
+    /// The slice takes the next parcel from any sender of a motion.
     Take { query: u32, motion: u32 },
-    /// The slice takes the next parcel of one sender.
+    /// The slice takes the next parcel from one sender.
     TakeFrom { key: ConnKey },
-    /// The slice wants no more of one sender.
+    /// The slice wants no more from one sender.
     Halt { key: ConnKey },
-    /// The network hands a datagram over.
+    /// The network delivers a datagram.
     Arrive { datagram: Datagram },
-    /// The clock goes on by one.
+    /// The clock advances by one tick.
     Tick,
-    /// Whether the query could be left.
+    /// Asks whether the query could be left now.
     Clear { query: u32 },
-    /// The query ends here.
+    /// The query ends at this segment.
     Leave { query: u32 },
 }
 
-/// Why an ask of a slice is refused.
+/// Why a call of a slice is refused. Each variant says whose doing it is.
 #[derive(Clone, Copy, Debug, PartialEq, Eq)]
 pub enum HubNo {
-    /// The sender keeps as many packets as it has room for.
+    /// The peer or the network: the sender has no room for another unacknowledged packet.
     Full,
-    /// The next packet isn't there.
+    /// The peer or the network: the next packet hasn't come.
     Empty,
-    /// The receiver asked for a stop.
+    /// The peer: the receiver asked for a stop.
     Stopped,
-    /// Nothing more is to be taken.
+    /// The peer, or the slice itself by a halt: there is nothing more to take.
     Ended,
-    /// The numbers of packets are used up.
+    /// The slice: it put so much on this connection that the packet numbers are used up.
     TooLong(ConnKey),
-    /// No live query of this hub has the connection, or the motion, with this side.
+    /// The slice: no live query of this hub has such a connection, or such a motion, with this side.
     Unknown { query: u32, motion: u32 },
     Memory,
 }
@@ -53,51 +53,52 @@ pub enum HubNo {
 /// Why a datagram that came is dropped.
 #[derive(Clone, Copy, Debug, PartialEq, Eq)]
 pub enum DropCause {
-    /// Its bytes are no packet.
+    /// The peer or the network: its bytes are no packet.
     Header(HeaderFault),
-    /// It is of no connection of this hub.
+    /// A stranger, or a misrouted datagram: it is on no connection of this hub.
     Foreign,
-    /// An answer of a query that isn't live.
+    /// The network: an answer to a query that isn't live.
     Late,
-    /// A packet of rows past the room of its receiver.
+    /// The peer: a packet of rows beyond the room of its receiver, or longer than the settings allow.
     Beyond,
-    /// An answer to what wasn't emitted.
+    /// The peer: an answer to what wasn't emitted, or one that contradicts itself.
     Stray,
 }
 
-/// What became of a datagram that came.
+/// What happened to a datagram that came.
 #[derive(Clone, Copy, Debug, PartialEq, Eq)]
 pub enum Arrived {
     Handled,
     Dropped(DropCause),
 }
 
-/// Why the clock doesn't go on.
+/// Why a tick is refused. The clock stays.
 #[derive(Clone, Copy, Debug, PartialEq, Eq)]
 pub enum TickNo {
-    /// A packet, or a status query behind the packet of this number, was emitted again so often without an answer.
+    /// The peer or the network: this packet was resent `tries` times without an answer, or the status query after it
+    /// was.
     Spent { key: ConnKey, seq: u32, tries: u32 },
     Memory,
 }
 
-/// A query can't be left: this is its first connection that isn't over.
+/// A query can't be left. Holds its first connection that isn't over.
 #[derive(Clone, Copy, Debug, PartialEq, Eq)]
 pub struct Unclear(pub ConnKey);
 
-/// Why a query isn't left.
+/// Why a query isn't left. Either is the caller's doing.
 #[derive(Clone, Copy, Debug, PartialEq, Eq)]
 pub enum LeaveNo {
     NotLive,
-    /// The first connection that isn't over.
+    /// Holds the query's first connection that isn't over.
     Unclear(ConnKey),
 }
 
-/// A hub's reply. Where a call finds no memory the reply is `Memory`, and no other variant holds that.
+/// A hub's reply. If a call runs out of memory, the reply is `Memory`, and never a `Memory` inside another variant.
 #[derive(Drop)]
 pub enum HubReply {
     /// To a `Begin`.
     Begun(Result<(), BeginNo>),
-    /// To a `Put`, a `Finish` or a `Halt`: the datagrams that are emitted.
+    /// To a `Put`, a `Finish` or a `Halt`: the datagrams that the hub emits.
     Gave(Result<Datagrams, HubNo>),
     /// To a `Take` or a `TakeFrom`.
     Took(Result<(Parcel, Datagrams), HubNo>),
@@ -114,7 +115,7 @@ pub enum HubReply {
 }
 
 impl HubReply {
-    /// The datagrams that are emitted with it.
+    /// The datagrams that the hub emits with this reply.
     pub fn datagrams(&self) -> &[Datagram]
         ensures { result.now ≡ datagrams_of self.now }
     {
@@ -128,7 +129,7 @@ impl HubReply {
     }
 }
 
-/// One ask with its reply.
+/// One call with its reply.
 #[derive(Drop)]
 pub struct Entry {
     pub ask: HubAsk,
@@ -173,7 +174,7 @@ impl History {
         self.entries.as_slice()
     }
 
-    /// Adds an entry at the end. A refused entry is dropped.
+    /// Adds an entry at the end. Fails only if out of memory; then the entry is dropped.
     pub fn push(&mut self, entry: Entry) -> Result<(), AllocError>
         ensures ok { OnOk result (self.new ≡ self.old ++ entry ∷ []) }
         ensures err { OnErr result (self.new ≡ self.old) }
@@ -183,7 +184,7 @@ impl History {
     }
 }
 
-/// One history per node, the dispatcher's first, then segment 0's and so on, seen as a list.
+/// One history for each node: the dispatcher's first, then segment 0's and so on. Seen as a list.
 #[derive(Drop)]
 pub struct Histories {
     nodes: Vec<History>,
@@ -199,7 +200,7 @@ impl Model for Histories {
 }
 
 impl Histories {
-    /// Empty histories of so many nodes.
+    /// Empty histories of this many nodes.
     pub fn new(alloc: Global, nodes: usize) -> Result<Histories, AllocError>
         ensures { IfOk result (λ h. h ≡ replicate nodes []) }
     {
@@ -225,7 +226,8 @@ impl Histories {
         self.nodes.as_slice()
     }
 
-    /// Adds an entry at the end of the history of the node at this place, from 0. A refused entry is dropped.
+    /// Adds an entry at the end of one node's history. The dispatcher is node 0, segment 0 is node 1, and so on. Fails
+    /// only if out of memory; then the entry is dropped.
     pub fn note(&mut self, node: usize, ask: HubAsk, reply: HubReply) -> Result<(), AllocError>
         requires { node < length self.old }
         ensures ok { OnOk result (self.new ≡ noted self.old node (record { ask = ask; reply = reply })) }

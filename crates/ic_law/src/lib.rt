@@ -1,11 +1,11 @@
 //! Histories of hubs, and the laws on them. No hub, no ring and no clock.
 //!
-//! A history is the list of a hub's entries, each an ask with its reply. What was sent, taken, emitted and heard is
-//! read from it, and a hub's law is said of it: `specs/History.antt`, `specs/Hub.antt`. `streams_follow` is the law
-//! above all: where the network gives only what was emitted, and each hub keeps its law, the rows taken on a
-//! connection are a prefix of the rows sent.
+//! A history is the list of a hub's entries, each a call (ask) with its reply. Everything is read from it: what was
+//! sent, taken, emitted and heard. A hub's law is a fact about its history: `specs/History.antt`, `specs/Hub.antt`.
+//! `streams_follow` is the main law: if the network delivers only what was emitted, and each hub obeys its law, then
+//! the rows taken on a connection are a prefix of the rows sent.
 //!
-//! A worker over a port speaks of its own calls with their replies alone: `specs/Logs.antt` reads that log from the
+//! A worker over a port speaks only of its own calls with their replies. `specs/Logs.antt` reads that log from the
 //! history of the worker's hub.
 //!
 //! Below: `ic_base`, `ic_row`, `ic_header`, `ic_chunk`. Above: the ends of connections, and the hub.

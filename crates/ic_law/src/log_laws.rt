@@ -1,17 +1,17 @@
-// Laws of logs, each carried by a function that has nothing to run.
+// Laws of logs. Each is the contract of a function with an empty body.
 ghost use Rattle.ic_law.specs.LogLaws.{LogGrows, NoneYet, OthersPass};
 
-/// What is added to a history adds its own log.
+/// Entries added to a history add their own log.
 pub fn log_grows()
     ensures { LogGrows }
 {}
 
-/// Where all asks of workers are of earlier queries, a query has no log.
+/// If all calls of workers are for earlier queries, a query has no log.
 pub fn none_yet()
     ensures { NoneYet }
 {}
 
-/// Asks of the workers of another query add nothing to a log.
+/// Calls of another query's worker add nothing to a query's log.
 pub fn others_pass()
     ensures { OthersPass }
 {}

@@ -1,4 +1,4 @@
-// Calls that take memory succeed where there is some.
+// What no clause says: that the calls which allocate succeed when there is memory.
 use crate::{Entry, Histories, History, HubAsk, HubReply};
 use std::alloc::{AllocError, Global};
 use std::test::Fail;
