@@ -1,4 +1,4 @@
--- What a network is seen as, after each of its calls.
+-- As what a network is seen after each of its calls.
 use Rattle.std.proofs.Common.{◌≡◌, ◌≢◌, ℕ, zero, suc, ◌+◌, ◌<◌, ◌≤◌, ℤ, List, [], ◌∷◌, ◌++◌, length, map, set, get_or, replicate, Bool, true, false, not, nat_lt, ◌||◌, cond, Option, Some, None, refl, ap, sym, ◌∙◌, subst, arith, inl, inr, ◌⊎◌, append-nil}
 use Rattle.std.proofs.lemmas.Bool.{le-ltb, lt-ltb, or_right, cond-true, cond-false}
 use Rattle.std.proofs.lemmas.List.{map-append, length-map, set_past, get_or-set_other, map-set}
@@ -80,7 +80,7 @@ gives_first at drops sent place nodes node new d is to q w h = (
   ap (net drops sent (kept_in (set nodes place new))) (map-set has_one nodes place new ∙ ap (set (map has_one nodes) place) h.2 ∙ ap (λ p. set (map has_one nodes) p true) is),
 )
 
--- nothing is queued where nothing is kept
+-- nothing is queued if nothing is kept
 no_queue : (nodes : List Node) → all_of nodes ≡ [] → (k : ℕ) (d : Node) → k < length nodes → queue_of (get_or nodes k d) ≡ []
 no_queue [] none k d lt = absurd (omega (arith, lt))
 no_queue (n ∷ ns) none zero d lt = first (queue_of n) (all_of ns) none
@@ -116,7 +116,7 @@ hand_of [] k d lt h = absurd (omega (arith, lt))
 hand_of (n ∷ ns) zero d lt h = h
 hand_of (n ∷ ns) (suc k) d lt h = hand_of ns k d (omega (arith, lt)) h
 
--- all are still exactly where the network is quiet
+-- all nodes are still exactly if the network is quiet
 still-quiet : (at : ℤ) (drops : List ℕ) (sent place : ℕ) (nodes : List Node) → place ≡ place_of at → AreStill place nodes → IsQuiet at (seen drops sent nodes)
 still-quiet at drops sent place nodes is still = record {
   none = ap (λ l. map datagram_of (in_order l)) (no_queues nodes (λ k d lt. (still k d lt).0));

@@ -64,7 +64,7 @@ in_order_more (x ∷ xs) ys e h =
 
 -- ---- one fewer
 
--- one of them, those that stand before it and those behind, and all but that one
+-- one of them, those before it and those after it, and all except that one
 pub record Leaves (Q : Numbered → Type 0) (e : Numbered) (all left : List Numbered) : Type 0 where
   pub before : List Numbered
   pub after : List Numbered
@@ -76,7 +76,7 @@ insert_first : (x : Numbered) (es : List Numbered) → AllByRecursion (λ f. x.n
 insert_first x [] h = refl
 insert_first x (f ∷ fs) h = cond-true (nat_le x.number f.number) (x ∷ f ∷ fs) (f ∷ insert x fs) (le-leb x.number f.number h.0)
 
--- it goes before all of its kind that aren't less
+-- it comes before all of its kind that aren't less
 insert_leaves : (Q : Numbered → Type 0) (e : Numbered) (es : List Numbered) → AllByRecursion (λ f. Q f ⊎ (e.number ≤ f.number)) es → Leaves Q e (insert e es) es
 insert_leaves Q e [] h = record { before = []; after = []; are = refl; others = refl; none = tt }
 insert_leaves Q e (f ∷ fs) h =

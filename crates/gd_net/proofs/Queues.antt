@@ -1,4 +1,4 @@
--- The queues of nodes: one of them, and what its change makes of all.
+-- The queues of nodes: one of them, and what changing it changes in all.
 use Rattle.std.proofs.Common.{◌≡◌, ◌≢◌, ℕ, zero, suc, ◌+◌, ◌<◌, ◌≤◌, ℤ, pos, negsuc, List, [], ◌∷◌, ◌++◌, length, map, set, get_or, Bool, true, false, cond, refl, ap, sym, ◌∙◌, subst, arith, inl, inr, ◌⊎◌, append_assoc}
 use Rattle.std.proofs.lemmas.List.{map-append}
 use Rattle.std.proofs.lemmas.List.Concat.{flat_map-append}
@@ -14,7 +14,7 @@ use Rattle.gd_net.proofs.Order.{all-append, all-weaken, all_in_order, in_order_m
 
 -- ---- one node among all
 
--- the nodes before it and behind it
+-- the nodes before it and after it
 pub record Stands (nodes : List Node) (k : ℕ) (node : Node) : Type 0 where
   pub front : List Node
   pub back : List Node
@@ -54,7 +54,7 @@ for-other j k d ne is = not_true (is_for (node_at k) d) (λ yes. node_at-other j
     not_true true h = absurd (h refl)
     not_true false h = refl
 
--- it is to another node than that at this place
+-- it is addressed to another node than the one at this position
 abbrev pub IsElsewhere : ℕ → Numbered → Type 0
 IsElsewhere k e = is_for (node_at k) e.datagram ≡ false
 
@@ -104,7 +104,7 @@ queues_later from sent now (n ∷ ns) le q = (queue_more from sent now (queue_of
 pub queue_here : (sent k : ℕ) (nodes : List Node) (node : Node) → AreQueues 0 sent nodes → Stands nodes k node → IsQueue k sent (queue_of node)
 queue_here sent k nodes node q w = (queues_back 0 k sent w.front (node ∷ w.back) (omega (arith, w.place)) (subst (AreQueues 0 sent) w.are q)).0
 
--- one of them is written anew
+-- one of them is replaced
 pub queues_written : (sent k : ℕ) (nodes : List Node) (node new : Node) → AreQueues 0 sent nodes → Stands nodes k node → IsQueue k sent (queue_of new) → AreQueues 0 sent (set nodes k new)
 queues_written sent k nodes node new q w here =
     let all = subst (AreQueues 0 sent) w.are q in

@@ -160,7 +160,7 @@ all_those P at (d ∷ ds) h =
       | inr is ↦ subst (AllByRecursion (λ e. P e × (e.to ≡ at))) (sym (those-skip at d ds is)) rest
     ]
 
--- what is kept to a node is among those kept for it
+-- a kept datagram is among those kept for its node
 among_those : (ds : List Datagram) (d : Datagram) → Contains ds d → Contains (those_for d.to ds) d
 among_those [] d (k, lt, is) = absurd (omega (arith, lt))
 among_those (e ∷ ds) d (zero, lt, is) =
@@ -190,7 +190,7 @@ was_sent segments drops calls last runs = (
       (Contains-append_right (came_to d.to calls) (those_for d.to last.kept) d (among_those last.kept d kept))).0,
 )
 
--- ---- where nothing is lost
+-- ---- if nothing is lost
 
 kept_whole : (drops : List ℕ) (nodes number : ℕ) (d : Datagram) → place_of d.to < nodes → is_dropped drops number ≡ false → kept_of drops nodes number d ≡ d ∷ []
 kept_whole drops nodes number d node kept =

@@ -1,4 +1,4 @@
--- The calls of a network, one behind the other, and what is read from them.
+-- The calls of a network, one after another, and what is read from them.
 use Rattle.std.specs.Prelude.{◌≡◌, ℕ, ◌+◌, ℤ, List, [], ◌∷◌, ◌++◌, if◌then◌else◌}
 use Rattle.std.specs.List.{flat_map}
 use Rattle.std.specs.Ordering.{int_eq}
@@ -7,12 +7,12 @@ use Rattle.gd_net.specs.declared.network.Received.{Received}
 use Rattle.gd_net.specs.declared.network.Received.TheVariants.{Came, Idle, Quiet}
 use Rattle.gd_net.specs.Network.{Net, kept_of, after_send, Receives}
 
--- a send that was answered Ok, or a receive of a node with what it gave; a send that failed is no call here
+-- a send that was answered Ok, or a receive of a node with its answer; a send that failed isn't listed
 pub data Call : Type 0 where
   sends : Datagram → Call
   receives : ℤ → Received → Call
 
--- what a call leaves of a network
+-- what a call changes in a network
 abbrev pub Does : Net → Call → Net → Type 0
 Does net (sends d) new = new ≡ after_send d net
 Does net (receives at got) new = Receives at net got new
@@ -26,7 +26,7 @@ abbrev pub sent_in : Call → List Datagram
 sent_in (sends d) = d ∷ []
 sent_in (receives at got) = []
 
--- the datagrams sent, in order: the first has the number 1
+-- the datagrams sent, in order: the first has number 1
 abbrev pub sent_of : List Call → List Datagram
 sent_of calls = flat_map sent_in calls
 
@@ -43,7 +43,7 @@ came_in at (receives to got) = if int_eq to at then given got else []
 abbrev pub came_to : ℤ → List Call → List Datagram
 came_to at calls = flat_map (came_in at) calls
 
--- of datagrams sent with the numbers from this one on, those that weren't lost
+-- the datagrams that weren't lost, of those sent with the numbers from this one on
 abbrev pub carried : List ℕ → ℕ → ℕ → List Datagram → List Datagram
 carried drops nodes number [] = []
 carried drops nodes number (d ∷ ds) = kept_of drops nodes number d ++ carried drops nodes (number + 1) ds

@@ -1,10 +1,10 @@
-//! A network in memory between the dispatcher and the segments: it loses the sends that it was told to, and keeps the
-//! others until they are received. No socket, no clock, no delay and no repeated copy; it looks into no datagram.
+//! A network in memory between the dispatcher and the segments. It loses the sends that it was told to lose, and keeps
+//! the others until they are received. No socket, no clock, no delay and no repeated copy; it looks into no datagram.
 //!
-//! A driver calls `send` with each datagram that a node emits, and `receive` for a node until it answers `Idle` or
-//! `Quiet`. At `Quiet` nothing is under way, so it is time for the node's next tick.
+//! A driver calls `send` with each datagram that a node emits, and `receive` for a node until the answer is `Idle` or
+//! `Quiet`. `Quiet` means that nothing is under way, so it is time for the node's next tick.
 //!
-//! Below: `ic_base`. Above: whoever runs all nodes in one program.
+//! Below: `ic_base`. Above: whatever runs all nodes in one program.
 #![tactic(auto)]
 
 mod laws;

@@ -9,27 +9,27 @@ use std::alloc::{AllocError, Global};
 use std::collections::VecDeque;
 use std::marker::Model;
 
-/// What a node is given.
+/// What a receive gives a node.
 #[derive(Drop)]
 pub enum Received {
-    /// The datagram for it with the least number. It has this in hand until its next receive.
+    /// The oldest datagram kept for this node. The node has it in hand until its next receive.
     Came(Datagram),
-    /// Nothing is kept for it; for another node something is, or another one has a datagram in hand.
+    /// Nothing is kept for this node. But something is kept for another node, or another node has a datagram in hand.
     Idle,
     /// Nothing is kept for any node, and no other node has a datagram in hand.
     Quiet,
 }
 
-/// The network between the dispatcher and some segments. Sends are numbered from 1 over its life.
+/// The network between the dispatcher and some segments. Sends are numbered from 1.
 ///
-/// A send takes a comparison for each number that is to be lost, and a receive that gives a datagram a fixed number of
-/// steps. A receive that gives none looks at each node once.
+/// A send takes one comparison for each number to be lost. A receive that gives a datagram takes a fixed number of
+/// steps; one that gives none looks at each node once.
 #[derive(Drop)]
 pub struct Network {
-    /// The dispatcher first, then segment 0 and so on.
+    /// The dispatcher's queue first, then segment 0's and so on.
     nodes: Vec<Node>,
     drops: Drops,
-    /// How many sends there were.
+    /// How many sends there were, the lost ones too.
     sent: u64,
 }
 
@@ -47,8 +47,8 @@ impl Model for Network {
 }
 
 impl Network {
-    /// The nodes are the dispatcher and the segments from 0 up to but without this number. The sends with these numbers
-    /// are lost, in whatever order they stand.
+    /// A network of the dispatcher and this many segments, numbered from 0. The sends with the numbers in `drops`, in
+    /// any order, are lost. Fails only if out of memory.
     pub fn new(alloc: Global, segments: u32, drops: Drops) -> Result<Network, AllocError>
         ensures { IfOk result (λ network. network ≡ fresh segments drops) }
     {
@@ -60,9 +60,9 @@ impl Network {
         })
     }
 
-    /// Keeps a datagram for the node that it is to, unless its number is to be lost or it is to no node. A send that is
-    /// lost has its number like any other. One that fails has none and changes nothing; it fails for want of memory, and
-    /// behind 18446744073709551615 sends.
+    /// Keeps a datagram for the node to which it goes. It is lost if its number is to be lost, or if there is no such
+    /// node; a lost send counts too. Fails only if out of memory, or after 18446744073709551615 sends; a failed send
+    /// isn't counted, and the datagram is dropped.
     pub fn send(&mut self, datagram: Datagram) -> Result<(), AllocError>
         ensures ok { OnOk result (self.new ≡ after_send datagram self.old) }
         ensures err { OnErr result (self.new ≡ self.old) }
@@ -81,7 +81,7 @@ impl Network {
         Ok(())
     }
 
-    /// Gives the datagram for this node with the least number, and keeps it no longer.
+    /// Gives the oldest datagram kept for this node, and keeps it no longer. Takes no memory.
     pub fn receive(&mut self, at: SegId) -> Received
         ensures { Receives at self.old result self.new }
     {
@@ -104,7 +104,7 @@ impl Network {
     }
 }
 
-/// So many nodes for which nothing is kept.
+/// This many nodes, for which nothing is kept.
 fn empty_nodes(alloc: Global, count: usize) -> Result<Vec<Node>, AllocError>
     ensures { IfOk result (λ nodes. AreEmpty count nodes.items) }
 {
@@ -118,7 +118,7 @@ fn empty_nodes(alloc: Global, count: usize) -> Result<Vec<Node>, AllocError>
     Ok(nodes)
 }
 
-/// What a node is given for which nothing is queued.
+/// The answer if nothing is kept for the node.
 fn none_for(nodes: &[Node], place: usize) -> Received
     ensures { GivesNone result (AreStill place nodes.now) }
 {
@@ -129,7 +129,7 @@ fn none_for(nodes: &[Node], place: usize) -> Received
     }
 }
 
-/// The place of a node among the nodes.
+/// The position of a node among the nodes: the dispatcher is 0.
 fn place_of(id: SegId) -> usize
     ensures value { result ≡ place_of id }
     ensures node { id ≡ node_at result }
@@ -137,7 +137,7 @@ fn place_of(id: SegId) -> usize
     (id.number() + 1) as usize
 }
 
-/// Is the send of this number to be lost?
+/// Whether the send of this number is to be lost.
 fn is_dropped(drops: &Drops, number: u64) -> bool
     ensures { result ≡ is_dropped drops.now number }
 {

@@ -12,16 +12,16 @@ pub(crate) struct Numbered {
     pub datagram: Datagram,
 }
 
-/// The datagrams to one node, in the order of their numbers.
+/// The datagrams for one node, in the order of their numbers.
 #[derive(Drop)]
 pub(crate) struct Node {
     pub queue: VecDeque<Numbered>,
-    /// Was a datagram the answer of its last receive?
+    /// Whether its last receive gave a datagram.
     pub has_one: bool,
 }
 
 impl Node {
-    /// Gives the first of its queue, which it then has in hand.
+    /// Gives the first of the queue. The node then has it in hand.
     pub(crate) fn next(&mut self) -> Option<Datagram>
         ensures { GivesNext self.old result self.new }
     {
@@ -38,7 +38,7 @@ impl Node {
     }
 }
 
-/// Is nothing queued, and has no node but that at this place a datagram in hand?
+/// Whether nothing is queued, and no node except the one at this position has a datagram in hand.
 pub(crate) fn are_still(nodes: &[Node], place: usize) -> bool
     ensures { IsTrue result ↔ AreStill place nodes.now }
 {

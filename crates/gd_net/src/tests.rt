@@ -1,4 +1,4 @@
-// What no clause says: that memory serves, and worked stories.
+// What no clause says: that the calls which allocate succeed when there is memory; and worked stories.
 use crate::{Network, Received};
 use ic_base::{Bytes, Datagram, Drops, SegId};
 use std::alloc::{AllocError, Global};
@@ -10,7 +10,7 @@ fn datagram(alloc: Global, from: SegId, to: SegId, byte: u8) -> Result<Datagram,
     Ok(Datagram { from, to, bytes })
 }
 
-/// Did a datagram of this byte come?
+/// Whether a datagram of this byte came.
 fn brings(received: &Received, byte: u8) -> bool {
     match received {
         Received::Came(datagram) => datagram.bytes.as_slice() == [byte].as_slice(),
