@@ -1,4 +1,4 @@
--- How a scanner stands to the log, at first and behind each turn.
+-- How a scanner matches the log, at first and after each turn.
 use Rattle.std.proofs.Common.{◌≡◌, ◌≢◌, ℕ, zero, suc, ◌+◌, ◌<◌, ℤ, List, [], ◌∷◌, ◌++◌, length, map, take, drop, get_or, Bool, true, false, ◌&&◌, ◌==◌, cond, Option, Some, None, Result, Ok, Err, refl, ap, sym, ◌∙◌, subst, arith, inl, inr, ◌⊎◌, append_assoc, append-nil}
 use Rattle.std.proofs.lemmas.List.Concat.{flat_map-append}
 use Rattle.std.proofs.lemmas.List.Quantifiers.{Any-push}
@@ -90,7 +90,7 @@ any_more P (z ∷ xs) x (zero, y, lt, is, p) = inl (0, y, omega arith, is, p)
 any_more P (z ∷ xs) x (suc k, y, lt, is, p) =
     elim (any_more P xs x (k, y, omega (arith, lt), is, p)) [ inl w ↦ inl (suc w.0, w.1, omega (arith, w.2), w.3, w.4) | inr w ↦ inr w ]
 
--- a place in a log with one more: the last, or one of those before
+-- a place in a log with one more entry: the last, or one of those before
 place_in_more : {X : Type 0} (xs : List X) (x : X) (before : List X) (e : X) (after : List X) → xs ++ x ∷ [] ≡ before ++ e ∷ after → (after ≡ []) ⊎ ((rest : List X) × (xs ≡ before ++ e ∷ rest))
 place_in_more [] x [] e after h = let none : [] ≡ after = cc in inl (sym none)
 place_in_more [] x (b ∷ []) e after h = let bad : [] ≡ e ∷ after = cc in cc
@@ -107,7 +107,7 @@ place_in_more (a ∷ xs) x (b ∷ before) e after h =
 nothing_behind : (motion : ℕ) (to : ℤ) (after : List PortEntry) → after ≡ [] → IsUntouched motion to after
 nothing_behind motion to after none = subst (IsUntouched motion to) (sym none) (λ k d lt. absurd (omega (arith, lt)))
 
--- where a log had no end, an end in a longer one is its last entry
+-- if a log had no end, an end in a longer one is its last entry
 last_more : (motion : ℕ) (to : ℤ) (log : List PortEntry) (x : PortEntry) → (Any (Ends motion to) log → ⊥) → (before : List PortEntry) (e : PortEntry) (after : List PortEntry)
     → log ++ x ∷ [] ≡ before ++ e ∷ after → Ends motion to e → IsUntouched motion to after
 last_more motion to log x none before e after at ends =
@@ -136,7 +136,7 @@ fresh_scans motion to packet s is rows log off =
 
 -- ---- one more entry
 
--- where nothing had ended
+-- if nothing had ended
 Open : (rows : List (List Value)) (motion : ℕ) (to : ℤ) (packet : ℕ) (left : List (List ℕ)) (log : List PortEntry) → Type 0
 Open rows motion to packet left log = (puts_of motion to log ++ left ≡ cut packet rows) × (Any (Ends motion to) log → ⊥)
 

@@ -1,4 +1,4 @@
--- How a gatherer stands to the log, at first and behind each turn.
+-- How a gatherer matches the log, at first and after each turn.
 use Rattle.std.proofs.Common.{◌≡◌, ◌≢◌, ℕ, zero, suc, ◌+◌, ◌<◌, ℤ, pos, negsuc, List, [], ◌∷◌, ◌++◌, length, get_or, set, replicate, Bool, true, false, ◌==◌, cond, Option, Some, None, IsSome, Result, Ok, Err, refl, ap, sym, ◌∙◌, subst, arith, inl, inr, ◌⊎◌, append-nil, get_or-set_same, get_or-set_other}
 use Rattle.std.proofs.lemmas.List.{get_or-replicate, length-replicate, length-set}
 use Rattle.std.proofs.lemmas.List.Concat.{flat_map-append}
@@ -82,7 +82,7 @@ sender_at-other zero (suc k) ne is = cc
 sender_at-other (suc j) zero ne is = cc
 sender_at-other (suc j) (suc k) ne is = let same : k ≡ j = cc in ne (ap suc (sym same))
 
--- no payload is the front of a stream
+-- the empty list of payloads is the front of a stream
 pub nothing_assembles : Assembles [] [] [] false
 nothing_assembles = record {
   chunks = [];
@@ -114,7 +114,7 @@ fresh_lets motion streams rows log is none off =
 
 -- ---- one turn
 
--- nothing of it changes but the log, by an entry without a parcel
+-- nothing of it changes except the log, by an entry without a parcel
 same_lets : (motion : ℕ) (streams : List Held) (rows : List (List Value)) (log now : List PortEntry) (course : Course) → Lets motion streams rows courses.Going log
     → parcels_of motion now ≡ parcels_of motion log → (course ≡ courses.Done → Any (IsEnd motion) now) → (course ≢ courses.Done → Any (IsEnd motion) now → ⊥)
     → ((sender : ℤ) → course ≡ courses.Refused (why.Malformed sender) → ⊥) → Lets motion streams rows course now
@@ -129,7 +129,7 @@ same_lets motion streams rows log now course h same done going fine = record {
 open_ : (motion : ℕ) (streams : List Held) (rows : List (List Value)) (log : List PortEntry) → Lets motion streams rows courses.Going log → Any (IsEnd motion) log → ⊥
 open_ motion streams rows log h = h.going (λ x. cc)
 
--- a take that was refused, but for Ended
+-- a take that was refused, except by Ended
 refused_lets : (motion : ℕ) (streams : List Held) (rows : List (List Value)) (log : List PortEntry) (no_ : PortNo) (course : Course) → Lets motion streams rows courses.Going log
     → (no_ ≡ Ended → ⊥) → course ≢ courses.Done → ((sender : ℤ) → course ≡ courses.Refused (why.Malformed sender) → ⊥)
     → Lets motion streams rows course (log ++ record { ask = Take motion; reply = Refused no_ } ∷ [])

@@ -5,20 +5,20 @@ use Rattle.ic_chunk.specs.Chunks.{spelled}
 use Rattle.gd_work.specs.declared.cutter.Cutter.{Cutter}
 use Rattle.gd_work.specs.Sending.{cut}
 
--- the chunk that is next, if there is one
+-- the next chunk, if it is ready
 abbrev pub pending : List ℕ → List (List ℕ)
 pending [] = []
 pending (b ∷ bytes) = (b ∷ bytes) ∷ []
 
--- what is left of the rows that were begun
+-- the chunks still to come of the rows that were begun
 abbrev pub left_of : Cutter → List (List ℕ)
 left_of c = pending c.chunk.items ++ map spelled c.splitter
 
--- what is left of these rows
+-- the chunks still to come of all these rows
 abbrev pub unput : Cutter → List (List Value) → List (List ℕ)
 unput c rows = left_of c ++ cut c.packet (drop c.begun rows)
 
--- the next chunk is there, or none is left
+-- the next chunk is ready, or none is left
 abbrev pub IsReadyWith : List ℕ → List (List ℕ) → Type 0
 IsReadyWith [] chunks = chunks ≡ []
 IsReadyWith (b ∷ bytes) chunks = Unit {0}

@@ -1,4 +1,4 @@
--- What follows of how workers stand to their logs.
+-- Laws of workers and their logs.
 use Rattle.std.specs.Prelude.{ℕ, ◌≡◌, ◌≤◌, ℤ, List, [], Bool, false, Contains}
 use Rattle.std.specs.List.{All, AllByRecursion, IsDistinct, flat_map}
 use Rattle.std.specs.List.Sorted.{IsPermutation}
@@ -11,8 +11,8 @@ use Rattle.ic_chunk.specs.Assembly.{Assembles}
 use Rattle.gd_work.specs.Sending.{Scanning, Scans, cut, puts_of, IsFinished}
 use Rattle.gd_work.specs.Taking.{payloads_from, LetsOut}
 
--- Where a scanner of these rows finished its stream, it put all their chunks, in order; each row is one that can be read
--- again; and the chunks put assemble to these rows.
+-- A scanner of these rows that finished its stream put all their chunks, in order. Each row can be spelled and read
+-- back, and the chunks put assemble to these rows.
 pub record PutAll (rows : List (List Value)) (s : Scanning) (log : List PortEntry) : Type 0 where
   pub chunks : puts_of s.motion s.to log ≡ cut s.packet rows
   pub are_rows : AllByRecursion IsRow rows
@@ -23,14 +23,14 @@ PutsAll =
     (rows : List (List Value)) (s : Scanning) (log : List PortEntry)
     → 128 ≤ s.packet → s.packet ≤ 65507 → Scans rows s log → IsFinished s.motion s.to log → PutAll rows s log
 
--- the payloads of this sender assemble to these rows, whatever is left behind them
+-- the payloads of this sender assemble to these rows, with or without an unfinished row after them
 pub record Gave (sender : ℤ) (parcels : List Parcel) (rows : List (List Value)) : Type 0 where
   pub rest : List ℕ
   pub ended : Bool
   pub assemble : Assembles (payloads_from sender parcels) rows rest ended
 
--- Rows let out by parcels of these senders, whose payloads assemble to rows each: the rows let out are the rows of all
--- senders, in some order.
+-- Parcels let out these rows. If the payloads of each of their senders assemble to rows, then the rows let out are the
+-- rows of all senders, in some order.
 abbrev pub LetsOutAll : Type 0
 LetsOutAll =
     (parcels : List Parcel) (rows : List (List Value)) (senders : List ℤ) (of : ℤ → List (List Value))

@@ -1,4 +1,4 @@
-// What a turn answers, and how far a worker is.
+// What a turn answers, and how far a worker has come.
 ghost use Rattle.std.specs.Prelude.{◌≡◌};
 ghost use Rattle.gd_work.specs.declared.course.WorkNo.TheVariants.{Memory};
 ghost use Rattle.gd_work.specs.Turns as spec;
@@ -6,26 +6,26 @@ ghost use Rattle.gd_work.specs.Turns as spec;
 use ic_base::{ConnKey, PortNo, SegId};
 use std::alloc::AllocError;
 
-/// What a turn did.
+/// What a turn did. A turn makes at most one call of the port.
 #[derive(Clone, Copy, Debug, PartialEq, Eq)]
 pub enum Turned {
     /// Its call was done.
     Moved,
-    /// The peer's, the network's or another worker's: its call was answered `Full`, `Empty` or `Busy`. The next turn makes
-    /// it again.
+    /// The peer, the network or another worker: its call was answered `Full`, `Empty` or `Busy`. The next turn makes it
+    /// again.
     Waiting(PortNo),
     /// Nothing is left to do.
     Done,
 }
 
-/// Why a worker goes no further.
+/// Why a worker gives up.
 #[derive(Clone, Copy, Debug, PartialEq, Eq)]
 pub enum WorkNo {
-    /// This worker's: it put so much on this connection that the numbers of packets are used up.
+    /// This worker: it put so much on this connection that the packet numbers are used up.
     TooLong(ConnKey),
-    /// The sender's: what was taken from this segment is no front of a stream of rows.
+    /// The sender: what was taken from this segment isn't the front of a stream of rows.
     Malformed(SegId),
-    /// This side: no memory was left.
+    /// Out of memory on this side.
     Memory,
 }
 
@@ -37,19 +37,19 @@ impl From<AllocError> for WorkNo {
     }
 }
 
-/// How far a worker is.
+/// How far a worker has come.
 #[derive(Clone, Copy, Debug, PartialEq, Eq)]
 pub enum Course {
     /// It has more to do.
     Going,
-    /// It has done all.
+    /// It has done everything.
     Done,
-    /// It was refused so.
+    /// It gave up for this reason.
     Refused(WorkNo),
 }
 
 impl Course {
-    /// How far a worker is behind a turn that answered so.
+    /// How far a worker has come after a turn with this answer.
     pub(crate) fn behind(answer: &Result<Turned, WorkNo>) -> Course
         ensures { result ≡ spec.course_behind answer.now }
     {
@@ -60,7 +60,7 @@ impl Course {
         }
     }
 
-    /// What each turn answers from now on, if that is settled.
+    /// What each further turn answers, if that is settled.
     pub(crate) fn settled(self) -> Option<Result<Turned, WorkNo>>
         ensures { result ≡ spec.settled self }
     {

@@ -13,21 +13,21 @@ use ic_chunk::Splitter;
 use ic_row::{Row, spell};
 use std::alloc::{AllocError, Global};
 
-/// Rows that are being cut into chunks. It holds the spelling of one row and one chunk, in a buffer that serves all
+/// Rows while they are cut into chunks. It holds the spelling of one row, and one chunk in a buffer that serves all
 /// chunks.
 #[derive(Drop)]
 pub(crate) struct Cutter {
     pub packet: u32,
-    /// How many rows were begun.
+    /// How many of the rows were begun.
     pub begun: usize,
-    /// What is to come of the row begun last.
+    /// The chunks still to come of the row begun last.
     pub splitter: Splitter,
-    /// The chunk that is next, or nothing.
+    /// The next chunk, or empty.
     pub chunk: Vec<u8>,
 }
 
 impl Cutter {
-    /// No row begun.
+    /// A cutter that has begun no row.
     pub(crate) fn new(alloc: Global, packet: u32) -> Result<Cutter, AllocError>
         requires least { 128 ≤ packet }
         requires greatest { packet ≤ 65507 }
@@ -41,7 +41,7 @@ impl Cutter {
         })
     }
 
-    /// Has the next chunk ready, if one is left. Spells a row where one begins.
+    /// Makes the next chunk ready, if one is left. Spells a row when it begins.
     fn fill(&mut self, alloc: Global, rows: &[Row]) -> Result<(), AllocError>
         requires least { 128 ≤ self.old.packet }
         requires greatest { self.old.packet ≤ 65507 }
@@ -64,7 +64,7 @@ impl Cutter {
         Ok(())
     }
 
-    /// Puts the next chunk, or finishes behind the last.
+    /// Puts the next chunk, or finishes after the last one.
     pub(crate) fn put_next<P: Port>(
         &mut self,
         alloc: Global,
@@ -101,7 +101,7 @@ impl Cutter {
     }
 }
 
-/// What a turn answers where a put or a finish was refused so.
+/// What a turn answers if a put or a finish was refused for this reason.
 fn refused(no: PortNo) -> Result<Turned, WorkNo>
     ensures { result ≡ refused no }
 {
@@ -109,7 +109,7 @@ fn refused(no: PortNo) -> Result<Turned, WorkNo>
         PortNo::Full | PortNo::Busy => Ok(Turned::Waiting(no)),
         PortNo::Stopped => Ok(Turned::Done),
         PortNo::TooLong(key) => Err(WorkNo::TooLong(key)),
-        // Neither is an answer to a put or a finish.
+        // A put or a finish is never refused so.
         PortNo::Empty | PortNo::Ended => Err(WorkNo::Memory),
         PortNo::Memory => Err(WorkNo::Memory),
     }

@@ -1,4 +1,4 @@
-// Who takes the rows of every sender.
+// The worker that takes the rows of every sender.
 ghost use Rattle.std.specs.Prelude.{◌≡◌, ℕ, ◌<◌, ◌++◌, List, Result, [], length, IfOk, OnOk, Some};
 ghost use Rattle.ic_base.specs.declared.port.PortEntry.{PortEntry};
 ghost use Rattle.ic_base.specs.Ports.{Hears};
@@ -15,16 +15,18 @@ use ic_row::Rows;
 use std::alloc::{AllocError, Global};
 use std::marker::Model;
 
-/// One for each number that a segment may have, -1..=63.
+/// One for each segment number, -1..=63.
 const SENDERS: usize = 65;
 
-/// Takes the parcels of a motion from any sender, and lets out the rows that they complete, in the order of the takes.
+/// Takes the parcels of a motion from any sender, and lets out the rows that they complete, in the order in which the
+/// parcels were taken.
 ///
-/// It keeps the bytes of a row that has begun, for each sender, and the rows let out. It copies no bytes of a whole row.
+/// It keeps the rows let out, and the bytes of an unfinished row for each sender. A row in one chunk is read from the
+/// parcel itself.
 #[derive(Drop)]
 pub struct Gatherer {
     motion: u32,
-    /// The dispatcher's first, then segment 0's and so on.
+    /// The dispatcher's joiner first, then segment 0's and so on.
     joiners: Vec<Joiner>,
     rows: Rows,
     course: Course,
@@ -42,7 +44,8 @@ impl Model for Gatherer {
 }
 
 impl Gatherer {
-    /// A gatherer for a motion, which knows no sender yet.
+    /// A gatherer for a motion, which has taken nothing. Allocates a joiner for each segment number. Fails only if out
+    /// of memory.
     pub fn new(alloc: Global, motion: u32) -> Result<Gatherer, AllocError>
         ensures value { IfOk result (λ gatherer. gatherer ≡ fresh motion) }
         ensures gathers { IfOk result (λ gatherer. (log : List PortEntry) → IsUntaken motion log → Gathers gatherer log) }
@@ -57,8 +60,8 @@ impl Gatherer {
 
     /// Takes the next parcel, and lets out the rows that it completes.
     ///
-    /// It is done once a take was answered `Ended`. Where one was answered `Empty` or `Busy`, the next turn takes again.
-    /// After `Memory` a parcel may have been taken and its rows let out in part.
+    /// It is done once a take is answered `Ended`. If a take is answered `Empty` or `Busy`, the next turn takes again.
+    /// If it gives up for `Memory`, a parcel may have been taken and only some of its rows let out.
     pub fn turn<P: Port>(&mut self, alloc: Global, port: &mut P) -> Result<Turned, WorkNo>
         requires hears { Hears (P.keys port.old) self.old.motion }
         ensures motion { self.new.motion ≡ self.old.motion }
@@ -67,7 +70,8 @@ impl Gatherer {
         ensures steps { StepsOnce P.steps port.old port.new }
         ensures course { self.new.course ≡ course_behind result }
 
-        // Which call it made, what the log has of it, and what it answers. Once its course is settled, it makes none.
+        // Which call it made, what the log has of it, and what it answers. Once its course is settled, it makes no
+        // call.
         ensures takes { self.old.course ≡ Going
             → Takes (P.keys port.old) self.old.motion (P.log port.old) (P.log port.new) self.old.streams self.new.streams self.old.rows self.new.rows result }
         ensures again { (answer : Result Turned WorkNo) → settled self.old.course ≡ Some answer
@@ -91,14 +95,14 @@ impl Gatherer {
         &self.rows
     }
 
-    /// The rows let out.
+    /// The rows let out. Copies nothing.
     pub fn into_rows(self) -> Rows
         ensures { result ≡ self.rows }
     {
         self.rows
     }
 
-    /// How far it is.
+    /// How far it has come.
     pub fn course(&self) -> Course
         ensures { result ≡ self.now.course }
     {
@@ -106,7 +110,7 @@ impl Gatherer {
     }
 }
 
-/// A joiner for each sender, which was fed nothing.
+/// A joiner for each segment number, none of which has taken anything.
 fn joiners(alloc: Global) -> Result<Vec<Joiner>, AllocError>
     ensures { IfOk result (λ joiners. joiners.items ≡ fresh_streams 65) }
 {
@@ -139,7 +143,7 @@ fn take<P: Port>(
     }
 }
 
-/// Takes over a parcel.
+/// Feeds a parcel to its sender's joiner, and lets out the rows.
 fn gain(
     alloc: Global,
     joiners: &mut Vec<Joiner>,
@@ -171,7 +175,7 @@ fn append(rows: &mut Rows, more: Rows) -> Result<(), AllocError>
     Ok(())
 }
 
-/// The place of a sender among the joiners.
+/// The position of a sender among the joiners: the dispatcher is 0.
 fn place_of(id: SegId) -> usize
     ensures value { result ≡ place_of id }
     ensures below { result < 65 }
@@ -180,14 +184,14 @@ fn place_of(id: SegId) -> usize
     (id.number() + 1) as usize
 }
 
-/// What a turn answers where its take was refused so.
+/// What a turn answers if its take was refused for this reason.
 fn refused(no: PortNo) -> Result<Turned, WorkNo>
     ensures { result ≡ refused no }
 {
     match no {
         PortNo::Empty | PortNo::Busy => Ok(Turned::Waiting(no)),
         PortNo::Ended => Ok(Turned::Done),
-        // Neither is an answer to a take.
+        // A take is never refused so.
         PortNo::Full | PortNo::Stopped | PortNo::TooLong(_) => Err(WorkNo::Memory),
         PortNo::Memory => Err(WorkNo::Memory),
     }

@@ -1,4 +1,4 @@
-// Who sends the rows of a segment.
+// The worker that sends the rows of a segment.
 ghost use Rattle.std.specs.Prelude.{◌≡◌, ℕ, ◌≤◌, List, Result, [], IfOk, Some};
 ghost use Rattle.std.specs.List.{All};
 ghost use Rattle.ic_base.specs.declared.port.PortEntry.{PortEntry};
@@ -18,11 +18,11 @@ use ic_row::Row;
 use std::alloc::{AllocError, Global};
 use std::marker::Model;
 
-/// Sends rows on one connection: the chunks of one row after another, each by a call of its own, and then the end of
+/// Sends rows on one connection: the chunks of one row after another, one call for each chunk, and then the end of
 /// stream.
 ///
-/// It keeps no rows: each turn is handed the same ones. It spells each row once and copies each chunk once, into one
-/// buffer that serves all chunks.
+/// It keeps no rows: the caller passes the same ones at each turn. It spells each row once, and copies each chunk once,
+/// into one buffer that serves all chunks.
 #[derive(Drop)]
 pub struct Scanner {
     motion: u32,
@@ -45,8 +45,8 @@ impl Model for Scanner {
 }
 
 impl Scanner {
-    /// A scanner for the connection of this motion to this segment, in packets of this many bytes, 128..=65507. Takes
-    /// memory for a counter alone.
+    /// A scanner for the connection of this motion to this segment, with packets of at most this many bytes,
+    /// 128..=65507. Allocates only a count of owners. Fails only if out of memory.
     pub fn new(alloc: Global, motion: u32, to: SegId, packet: u32) -> Result<Scanner, AllocError>
         requires least { 128 ≤ packet }
         requires greatest { packet ≤ 65507 }
@@ -62,10 +62,10 @@ impl Scanner {
         })
     }
 
-    /// Puts the next chunk of the rows, or finishes behind the last one. The rows are the same at each turn.
+    /// Puts the next chunk of the rows, or finishes after the last one. `rows` must be the same at each turn.
     ///
-    /// It is done once the finish was answered Ok, or a call was answered `Stopped`. Where a call was answered `Full` or
-    /// `Busy`, the next turn makes the same one.
+    /// It is done once the finish is answered Ok, or a call is answered `Stopped`. If a call is answered `Full` or
+    /// `Busy`, the next turn makes it again.
     pub fn turn<P: Port>(
         &mut self,
         alloc: Global,
@@ -73,7 +73,7 @@ impl Scanner {
         rows: &[Row],
     ) -> Result<Turned, WorkNo>
         requires sends { SendsTo (P.keys port.old) self.old.motion self.old.to }
-        // The rows that are sent are those that can be spelled: fewer than 2^16 values, texts shorter than 2^32 bytes.
+        // Only rows that can be spelled are sent: fewer than 2^16 values, and texts shorter than 2^32 bytes.
         requires lengths { All HasLengths rows.now }
         ensures same { Same self.old self.new }
         ensures keys { P.keys port.new ≡ P.keys port.old }
@@ -81,13 +81,14 @@ impl Scanner {
         ensures steps { StepsOnce P.steps port.old port.new }
         ensures course { self.new.course ≡ course_behind result }
 
-        // Which call it made, what the log has of it, and what it answers. Once its course is settled, it makes none.
+        // Which call it made, what the log has of it, and what it answers. Once its course is settled, it makes no
+        // call.
         ensures puts { self.old.course ≡ Going
             → Puts (P.keys port.old) self.old.motion self.old.to (still self.old rows.now) (still self.new rows.now) (P.log port.old) (P.log port.new) result }
         ensures again { (answer : Result Turned WorkNo) → settled self.old.course ≡ Some answer
             → (result ≡ answer) × (self.new ≡ self.old) × (port.new ≡ port.old) }
 
-        // So the chunks put are those of the rows, in order, and it is done exactly where the connection has an end.
+        // So the chunks put are those of the rows, in order, and it is done exactly if the connection has an end.
         ensures scans { Scans rows.now self.old (P.log port.old) → Scans rows.now self.new (P.log port.new) }
     {
         if let Some(answer) = self.course.settled() {
@@ -100,7 +101,7 @@ impl Scanner {
         answer
     }
 
-    /// How far it is.
+    /// How far it has come.
     pub fn course(&self) -> Course
         ensures { result ≡ self.now.course }
     {

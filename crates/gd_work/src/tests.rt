@@ -1,4 +1,5 @@
-// What no clause says: that memory serves, and worked stories over a scripted port.
+// What no clause says: that the calls which allocate succeed when there is memory; and worked stories over a scripted
+// port.
 ghost use Rattle.std.specs.Prelude.{◌≡◌, IfOk, pos, negsuc, ◌≤◌, ◌<◌, length};
 ghost use Rattle.std.specs.List.{All};
 ghost use Rattle.ic_base.specs.Ports.{SendsTo, Hears};
@@ -8,10 +9,8 @@ mod script;
 
 use crate::{Gatherer, Scanner, Turned, WorkNo};
 use ic_base::{
-    Bytes, ConnEnd, ConnEnds, ConnKey, Parcel, PortAsk, PortEntry, PortNo, PortReply, SegId,
-    Text,
+    Bytes, ConnEnd, ConnEnds, ConnKey, Parcel, PortAsk, PortEntry, PortNo, PortReply, SegId, Text,
 };
-
 use ic_row::{Row, Rows, Value};
 use script::ScriptPort;
 use std::alloc::{AllocError, Global};
@@ -44,7 +43,7 @@ fn sending(alloc: Global, script: Vec<PortReply>) -> Result<ScriptPort, Fail>
     Ok(ScriptPort::new(alloc, ConnEnds::from_vec(ends), script))
 }
 
-/// The dispatcher's port, which hears segments 0 and 1 on motion 1.
+/// The dispatcher's port, which receives from segments 0 and 1 on motion 1.
 fn hearing(alloc: Global, script: Vec<PortReply>) -> Result<ScriptPort, Fail>
     ensures { IfOk result (λ p. Hears p.keys 1) }
 {
@@ -85,7 +84,7 @@ fn int_row(alloc: Global, n: i64) -> Result<Row, AllocError>
     Ok(Row::from_vec(vec![in alloc; Value::Int(n)]?))
 }
 
-/// A row of one text of so many letters.
+/// A row of one text of this many letters.
 fn text_row(alloc: Global, letters: u16) -> Result<Row, AllocError>
     ensures { IfOk result (λ row. HasLengths row) }
 {
@@ -109,7 +108,7 @@ fn two(alloc: Global, first: Row, second: Row) -> Result<Rows, AllocError>
     Ok(Rows::from_vec(vec![in alloc; first, second]?))
 }
 
-/// Was this chunk put?
+/// Whether this chunk was put.
 fn is_put(entry: &PortEntry, bytes: &[u8]) -> bool {
     match &entry.ask {
         PortAsk::Put { motion, to, chunk } => {
@@ -202,7 +201,7 @@ fn a_row_of_57_bytes_is_put_in_two_chunks_and_a_stop_ends_the_work(
     Ok(())
 }
 
-/// Are these two rows of one integer?
+/// Whether these are two rows, of one integer each.
 fn are_two(rows: &[Row], first: i64, second: i64) -> bool {
     match rows {
         [a, b] => is_int(a, first) && is_int(b, second),

@@ -11,10 +11,10 @@ use ic_base::{
 use std::alloc::{AllocError, Global};
 use std::collections::VecDeque;
 
-/// A port over a list of replies, for tests of code over any port. There is no hub behind it.
+/// A port over a list of replies, for tests of code over any port. No hub is involved.
 ///
-/// Each call takes the next reply out of the script and answers it, where this call may be answered so: a parcel only
-/// from a sender that it may come from. Else, and where the script is over or memory is wanting, it answers `Memory`.
+/// Each call takes the next reply of the script, and answers it if such a call may be answered so; a parcel must be
+/// from a sender from which it may come. Otherwise, and if the script is over or memory runs out, it answers `Memory`.
 #[derive(Drop)]
 pub(crate) struct ScriptPort {
     keys: ConnEnds,
@@ -24,7 +24,7 @@ pub(crate) struct ScriptPort {
 }
 
 impl ScriptPort {
-    /// A port of these connections that answers these replies. Takes no memory.
+    /// A port of these connections that gives these replies. Takes no memory.
     pub(crate) fn new(alloc: Global, keys: ConnEnds, script: Vec<PortReply>) -> ScriptPort
         ensures { result.keys ≡ keys }
     {
@@ -36,21 +36,18 @@ impl ScriptPort {
         }
     }
 
-    /// Its calls with their replies, but those that were answered `Busy` or `Memory`.
-    pub(crate) fn log(&self) -> &[PortEntry]
-    {
+    /// Its calls with their replies, except those answered `Busy` or `Memory`.
+    pub(crate) fn log(&self) -> &[PortEntry] {
         self.log.as_slice()
     }
 
     /// How often it has answered `Busy`.
-    pub(crate) fn busy(&self) -> u64
-    {
+    pub(crate) fn busy(&self) -> u64 {
         self.busy
     }
 
-    /// How many replies are left.
-    pub(crate) fn left(&self) -> usize
-    {
+    /// How many replies are left in the script.
+    pub(crate) fn left(&self) -> usize {
         self.left.len()
     }
 
@@ -80,7 +77,7 @@ impl ScriptPort {
         }
     }
 
-    /// The refusal, where a put or a finish may be refused so.
+    /// The refusal, if a put or a finish may be refused so, or `Memory`.
     fn sent_or_memory(&self, motion: u32, to: SegId, no: PortNo) -> Result<(), PortNo>
         ensures refusals { IfErr result (MayRefusePut self.now.keys motion to) }
     {
@@ -129,7 +126,7 @@ impl ScriptPort {
         }
     }
 
-    /// The next answer to a take of any sender.
+    /// The next answer to a take from any sender.
     fn next_taken(&mut self, motion: u32) -> Result<Parcel, PortNo>
         ensures keys { self.new.keys ≡ self.old.keys }
         ensures log { self.new.log ≡ self.old.log }
@@ -144,7 +141,7 @@ impl ScriptPort {
         Ok(parcel)
     }
 
-    /// Notes a call and its reply.
+    /// Adds a call and its reply to the log.
     fn note(&mut self, ask: PortAsk, reply: PortReply) -> Result<(), AllocError>
         ensures keys { self.new.keys ≡ self.old.keys }
         ensures ok { OnOk result (self.new.log ≡ logged ask reply self.old.log) }
@@ -159,7 +156,7 @@ impl ScriptPort {
         Ok(())
     }
 
-    /// Notes a call that gives no parcel, and gives its answer.
+    /// Adds a call that gives no parcel to the log, and returns its answer.
     fn close_did(&mut self, ask: PortAsk, answer: Result<(), PortNo>) -> Result<(), PortNo>
         ensures refusal { IfErr result (λ no. (no ≡ Memory) ⊎ (answer ≡ Err no)) }
         ensures keys { self.new.keys ≡ self.old.keys }
@@ -173,7 +170,7 @@ impl ScriptPort {
         answer
     }
 
-    /// Notes a call that gives a parcel, and gives its answer.
+    /// Adds a call that gives a parcel to the log, and returns its answer.
     fn close_gave(&mut self, ask: PortAsk, answer: Result<Parcel, PortNo>) -> Result<Parcel, PortNo>
         ensures parcel { IfOk result (λ parcel. answer ≡ Ok parcel) }
         ensures refusal { IfErr result (λ no. (no ≡ Memory) ⊎ (answer ≡ Err no)) }
@@ -195,7 +192,7 @@ impl ScriptPort {
     }
 }
 
-/// Whether it is the sending end of this connection.
+/// Whether the end is the sending end of this connection.
 fn is_sending(end: &ConnEnd, key: &ConnKey) -> bool
     ensures { IsTrue result ↔ ((end.now.sending ≡ true) × (end.now.key ≡ key.now)) }
 {
@@ -213,7 +210,7 @@ fn shared(parcel: &Parcel) -> Result<Parcel, AllocError>
     })
 }
 
-/// The answer of a reply to a call that gives no parcel.
+/// The answer in a reply to a call that gives no parcel.
 fn done_of(reply: PortReply) -> Result<(), PortNo>
     ensures { Follows reply (did result) }
 {
@@ -224,7 +221,7 @@ fn done_of(reply: PortReply) -> Result<(), PortNo>
     }
 }
 
-/// The parcel of a reply to a take.
+/// The parcel in a reply to a take.
 fn parcel_of(reply: PortReply) -> Result<Parcel, PortNo>
     ensures refusals { IfErr result MayRefuseTake }
 {
@@ -300,7 +297,7 @@ impl Port for ScriptPort {
     }
 }
 
-/// The parcel, where it is from this sender.
+/// The parcel, if it is from this sender.
 fn only_from(sender: SegId, answer: Result<Parcel, PortNo>) -> Result<Parcel, PortNo>
     ensures from { IfOk result (λ parcel. parcel.from ≡ sender) }
 {
