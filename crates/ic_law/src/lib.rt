@@ -8,7 +8,7 @@
 //! A worker over a port speaks only of its own calls with their replies. `specs/Logs.antt` reads that log from the
 //! history of the worker's hub.
 //!
-//! Below: `ic_base`, `ic_row`, `ic_header`, `ic_chunk`. Above: the ends of connections, and the hub.
+//! Below: `ic_base`, `ic_row`, `ic_header`, `ic_chunk`, `ic_window`. Above: the ends of connections, and the hub.
 #![tactic(auto)]
 
 mod history;
