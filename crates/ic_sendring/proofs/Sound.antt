@@ -1,10 +1,10 @@
 -- A ring stays sound when a packet is sealed, when it is sent, and when the first one is freed.
-use Rattle.std.proofs.Common.{◌≡◌, ℕ, suc, ◌+◌, ◌-◌, ◌*◌, ◌%◌, ◌<◌, ◌≤◌, ◌^◌, false, List, [], ◌∷◌, ◌++◌, length, map, drop, Some, slice_get, refl, ap, sym, ◌∙◌, subst, arith}
+use Rattle.std.proofs.Common.{◌≡◌, ℕ, ◌+◌, ◌-◌, ◌*◌, ◌%◌, ◌<◌, ◌≤◌, ◌^◌, false, List, [], ◌∷◌, ◌++◌, length, drop, Some, slice_get, refl, ap, sym, ◌∙◌, subst, arith}
 use Rattle.std.specs.List.{AllByRecursion, All}
 use Rattle.std.proofs.lemmas.List.{map-append, length_push, length-drop}
 use Rattle.std.proofs.lemmas.List.Elements.{All-push, All-drop, All-from_recursion, recursion_from_All}
 use Rattle.ic_sendring.specs.declared.slot.Slot.{Slot}
-use Rattle.ic_sendring.specs.Ring.{Packet, Kept, Ring, IsRing, numbers_from, room_of, empty}
+use Rattle.ic_sendring.specs.Ring.{Packet, Kept, IsRing, numbers_from, room_of}
 use Rattle.ic_sendring.specs.Views.{packet_of, packets_of, kept_of, seen, seqs_of, ring_of}
 use Rattle.ic_sendring.specs.Room.{IsSound, IsIn}
 use Rattle.ic_sendring.proofs.Numbers.{numbers_from-more, numbers_from-drop}

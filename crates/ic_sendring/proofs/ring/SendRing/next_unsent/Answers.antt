@@ -1,4 +1,4 @@
-use Rattle.std.proofs.Common.{◌≡◌, length, Option, Some, sym, ap, ◌∙◌, arith}
+use Rattle.std.proofs.Common.{length, Option, Some, sym, ap, ◌∙◌, arith}
 use Rattle.ic_sendring.specs.Ring.{Packet, Ring, next_of}
 use Rattle.ic_sendring.specs.Views.{packet_of, packets_of}
 use Rattle.ic_sendring.proofs.Seen.{next_is, next_none}

@@ -1,4 +1,4 @@
-use Rattle.std.proofs.Common.{◌≡◌, ◌+◌, ◌≤◌, length, Some, IsSome, sym, ap, subst, arith}
+use Rattle.std.proofs.Common.{◌≡◌, ◌+◌, Some, IsSome, sym, ap, subst, arith}
 use Rattle.ic_sendring.specs.Ring.{Ring, Packet, next_of, with_sent}
 use Rattle.ic_sendring.specs.Views.{packets_of, ring_of}
 use Rattle.ic_sendring.proofs.Seen.{next_within, marked_next}
