@@ -1,3 +1,4 @@
 pub mod Numbers
 mod Seen
+mod Block
 mod Sound

@@ -1,23 +1,20 @@
 -- The room that a send ring takes when it is made, so that sealing takes none.
-use Rattle.std.specs.Prelude.{◌≡◌, ℕ, ◌+◌, ◌≤◌, List, length, Vec, vec_capacity, All}
-use Rattle.std.specs.declared.alloc.Global.{Global}
+use Rattle.std.specs.Prelude.{◌≡◌, ℕ, ◌+◌, ◌-◌, ◌*◌, ◌%◌, ◌≤◌, List, length, All}
 use Rattle.ic_sendring.specs.declared.slot.Slot.{Slot}
-use Rattle.ic_sendring.specs.Ring.{Ring, IsRing, room_of}
+use Rattle.ic_sendring.specs.Ring.{IsRing, room_of}
+use Rattle.ic_sendring.specs.Views.{packets_of, ring_of}
 
--- each of these buffers has room for so many bytes
-abbrev pub HaveRoom : ℕ → List (Vec ℕ Global) → Type 0
-HaveRoom room buffers = All (λ b. room ≤ vec_capacity b) buffers
+-- packet s is in slot s - 1 modulo the depth, and its payload within the slot and the block
+pub record IsIn (depth room : ℕ) (block : List ℕ) (s : Slot) : Type 0 where
+  pub at : s.at ≡ ((s.seq - 1) % depth) * room
+  pub short : s.len ≤ room
+  pub within : s.at + s.len ≤ length block
 
-abbrev pub KeepRoom : ℕ → List Slot → Type 0
-KeepRoom room slots = All (λ s. room ≤ vec_capacity s.payload) slots
-
--- a ring with a buffer for each packet that it may keep: kept packets, of which the first were sent, and spare
--- buffers, with so many places for each
-pub record IsSound (s : Ring) (sent : ℕ) (slots : List Slot) (places : ℕ) (spare : List (Vec ℕ Global)) (spares : ℕ) : Type 0 where
-  pub ring : IsRing s
+-- a ring whose first kept packets were sent, with places for as many packets as it may keep, and with a block of a
+-- payload slot for each
+pub record IsSound (depth packet sealed sent : ℕ) (slots : List Slot) (capacity : ℕ) (block : List ℕ) (room : ℕ) : Type 0 where
+  pub ring : IsRing (ring_of depth packet sealed sent (packets_of block slots))
   pub sent_within : sent ≤ length slots
-  pub count : length slots + length spare ≡ s.depth
-  pub places_for_slots : s.depth ≤ places
-  pub places_for_spare : s.depth ≤ spares
-  pub slot_rooms : KeepRoom (room_of s.packet) slots
-  pub spare_rooms : HaveRoom (room_of s.packet) spare
+  pub places : capacity ≡ depth
+  pub bytes : depth * room_of packet ≤ room
+  pub in_slots : All (IsIn depth (room_of packet) block) slots

@@ -5,7 +5,7 @@
 //! next number. While the sender may emit, `next_unsent` is the packet to emit, and `sent` marks it. An acknowledgement
 //! frees packets by `acked`; until then `packet` gives the bytes again that were sealed under a number.
 //!
-//! Below: std alone. Above: whoever sends for a connection.
+//! Below: std and `circular_buffer`. Above: whoever sends for a connection.
 #![tactic(auto)]
 
 mod fault;

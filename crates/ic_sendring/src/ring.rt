@@ -5,9 +5,9 @@ ghost use Rattle.ic_sendring.specs.Views.{lent};
 
 use crate::fault::SealNo;
 use crate::sealed::Sealed;
-use crate::slot::{Slot, buffers, filled};
+use crate::slot::{Slot, fill, push};
+use circular_buffer::HeapCircularBuffer;
 use std::alloc::{AllocError, Global};
-use std::collections::VecDeque;
 use std::marker::Model;
 
 /// The bytes of a packet that are its header.
@@ -17,8 +17,8 @@ const HEADER: u32 = 64;
 /// the kept packets from the least number on, each with whether it was sent, the depth in packets, and the size of a
 /// packet in bytes.
 ///
-/// What TCP calls a send buffer with its retransmission queue. All its room is taken by `with_depth`; a payload is
-/// copied once, when it is sealed, and stays where it lies until it is freed.
+/// What TCP calls a send buffer with its retransmission queue. All its room is taken by `with_depth`, with one block for
+/// all payloads; a payload is copied once, when it is sealed, and stays where it lies until it is freed.
 #[derive(Drop)]
 pub struct SendRing {
     depth: u32,
@@ -28,23 +28,23 @@ pub struct SendRing {
     /// How many of the kept packets were sent, the first ones.
     sent: usize,
     /// By increasing number without a gap, with places for `depth` of them.
-    slots: VecDeque<Slot>,
-    /// The buffers of no kept packet, each with room for the longest payload.
-    spare: Vec<Vec<u8>>,
+    slots: HeapCircularBuffer<Slot>,
+    /// Payload slots, one behind the other: packet s is in slot s - 1 modulo the depth. It is as long as the slots that
+    /// were used.
+    block: Vec<u8>,
 }
 
 impl Model for SendRing {
     ghost use Rattle.std.specs.Prelude.{vec_capacity};
-    ghost use Rattle.std.specs.VecDeque.{deque_capacity};
     ghost use Rattle.ic_sendring.specs.Ring.{Ring};
-    ghost use Rattle.ic_sendring.specs.Views.{ring_of};
+    ghost use Rattle.ic_sendring.specs.Views.{packets_of, ring_of};
     ghost use Rattle.ic_sendring.specs.Room.{IsSound};
 
     ghost Value = { Ring };
 
-    ghost view = { λ r. ring_of r.depth r.packet r.sealed r.sent r.slots.items };
+    ghost view = { λ r. ring_of r.depth r.packet r.sealed r.sent (packets_of r.block.items r.slots.items) };
 
-    ghost invariant = { λ r. IsSound (ring_of r.depth r.packet r.sealed r.sent r.slots.items) r.sent r.slots.items (deque_capacity r.slots) r.spare.items (vec_capacity r.spare) };
+    ghost invariant = { λ r. IsSound r.depth r.packet r.sealed r.sent r.slots.items r.slots.capacity r.block.items (vec_capacity r.block) };
 }
 
 impl SendRing {
@@ -53,16 +53,16 @@ impl SendRing {
     pub fn with_depth(alloc: Global, depth: u32, packet: u32) -> Result<SendRing, AllocError>
         ensures { IfOk result (λ r. r ≡ empty depth packet) }
     {
-        let slots = VecDeque::with_capacity(alloc, depth as usize)?;
+        let slots = HeapCircularBuffer::with_capacity(alloc, depth as usize)?;
         let room = packet.saturating_sub(HEADER) as usize;
-        let spare = buffers(alloc, depth as usize, room)?;
+        let block = Vec::with_capacity(alloc, depth as usize * room)?;
         Ok(SendRing {
             depth,
             packet,
             sealed: 0,
             sent: 0,
             slots,
-            spare,
+            block,
         })
     }
 
@@ -77,8 +77,11 @@ impl SendRing {
         let Some(seq) = self.sealed.checked_add(1) else {
             return Err(SealNo::TooLong);
         };
-        let payload = filled(self.spare.take_last(), payload);
-        self.slots.push_back_reserved(Slot { seq, last, payload });
+        let room = self.packet.saturating_sub(HEADER) as usize;
+        let at = (self.sealed % self.depth) as usize * room;
+        fill(&mut self.block, at, room, payload);
+        let len = payload.len();
+        push(&mut self.slots, Slot { seq, last, at, len });
         self.sealed = seq;
         Ok(seq)
     }
@@ -89,7 +92,7 @@ impl SendRing {
         ensures ring { IsRing self.now }
     {
         match self.slots.get(self.sent) {
-            Some(slot) => Some(slot.lend()),
+            Some(slot) => Some(slot.lend(self.block.as_slice())),
             None => None,
         }
     }
@@ -119,15 +122,7 @@ impl SendRing {
         requires { 0 < length self.old.kept }
         ensures { self.new ≡ record self.old { kept = drop 1 self.old.kept } }
     {
-        let Some(slot) = self.slots.pop_front() else {
-            unreachable!();
-        };
-        let Slot {
-            seq: _,
-            last: _,
-            payload,
-        } = slot;
-        self.spare.push_reserved(payload);
+        let _freed = self.slots.pop_front();
         self.sent = self.sent.saturating_sub(1);
     }
 
@@ -165,8 +160,10 @@ impl SendRing {
         if behind >= self.slots.len() {
             return None;
         }
-        let slot = &self.slots[self.slots.len() - 1 - behind];
-        Some(slot.lend())
+        match self.slots.get(self.slots.len() - 1 - behind) {
+            Some(slot) => Some(slot.lend(self.block.as_slice())),
+            None => None,
+        }
     }
 
     /// Frees all packets. Numbers go on.

@@ -1,54 +1,89 @@
-// A packet in its buffer.
-ghost use Rattle.std.specs.Prelude.{◌≡◌, ◌≤◌, length, vec_capacity, IfOk};
-ghost use Rattle.ic_sendring.specs.Room.{HaveRoom};
+// The packets of a ring, and the block of their payloads.
+ghost use Rattle.std.specs.Prelude.{◌≡◌, ◌+◌, ◌<◌, ◌≤◌, [], ◌∷◌, ◌++◌, ℕ, length, vec_capacity};
+ghost use Rattle.std.specs.List.{between};
+ghost use Rattle.circular_buffer.specs.Buffer.{buffer};
+ghost use Rattle.ic_sendring.specs.Views.{packet_of};
 
 use crate::sealed::Sealed;
-use std::alloc::{AllocError, Global};
+use circular_buffer::HeapCircularBuffer;
 
-/// A packet that is kept, in a buffer of the ring.
-#[derive(Drop)]
+/// A packet that is kept: its number, whether it has the end of stream, and its payload's slot in the block.
+#[derive(Clone, Copy)]
 pub(crate) struct Slot {
     pub seq: u32,
     pub last: bool,
-    pub payload: Vec<u8>,
+    /// Where its slot begins.
+    pub at: usize,
+    /// How many bytes of the slot are its payload.
+    pub len: usize,
 }
 
 impl Slot {
-    pub(crate) fn lend(&self) -> Sealed<'_>
+    /// The packet, with its bytes in the block.
+    pub(crate) fn lend<'a>(&self, block: &'a [u8]) -> Sealed<'a>
+        requires { self.now.at + self.now.len ≤ length block.now }
         ensures seq { result.seq ≡ self.now.seq }
         ensures last { result.last ≡ self.now.last }
-        ensures payload { result.payload.now ≡ self.now.payload.items }
+        ensures payload { result.payload.now ≡ (packet_of block.now self.now).payload }
     {
         Sealed {
             seq: self.seq,
             last: self.last,
-            payload: self.payload.as_slice(),
+            payload: &block[self.at..self.at + self.len],
         }
     }
 }
 
-/// So many buffers, each with room for so many bytes.
-pub(crate) fn buffers(alloc: Global, count: usize, room: usize) -> Result<Vec<Vec<u8>>, AllocError>
-    ensures count { IfOk result (λ v. length v.items ≡ count) }
-    ensures places { IfOk result (λ v. count ≤ vec_capacity v) }
-    ensures rooms { IfOk result (λ v. HaveRoom room v.items) }
+/// Makes the slot that begins at `at` part of the block, where it isn't yet: slots are used one behind the other at
+/// first. Takes no memory.
+fn reach(block: &mut Vec<u8>, end: usize)
+    requires { end ≤ vec_capacity block.old }
+    ensures end { end ≤ length block.new.items }
+    ensures longer { length block.old.items ≤ length block.new.items }
+    ensures same { (a e : ℕ) → e ≤ length block.old.items → between a e block.new.items ≡ between a e block.old.items }
+    ensures capacity { vec_capacity block.old ≤ vec_capacity block.new }
 {
-    let mut buffers = Vec::with_capacity(alloc, count)?;
-    for _ in 0..count {
-        buffers.push(Vec::with_capacity(alloc, room)?)?;
+    if block.len() < end {
+        if block.resize(end, 0).is_err() {
+            unreachable!();
+        }
     }
-    Ok(buffers)
 }
 
-/// A buffer with these bytes in place of what was in it. Takes no memory.
-pub(crate) fn filled(mut buffer: Vec<u8>, bytes: &[u8]) -> Vec<u8>
-    requires { length bytes.now ≤ vec_capacity buffer }
-    ensures bytes { result.items ≡ bytes.now }
-    ensures capacity { vec_capacity buffer ≤ vec_capacity result }
+/// Writes bytes at a place of the block.
+fn write(block: &mut Vec<u8>, at: usize, bytes: &[u8])
+    requires { at + length bytes.now ≤ length block.old.items }
+    ensures here { between at (at + length bytes.now) block.new.items ≡ bytes.now }
+    ensures before { (a e : ℕ) → e ≤ at → between a e block.new.items ≡ between a e block.old.items }
+    ensures behind { (a e : ℕ) → at + length bytes.now ≤ a → between a e block.new.items ≡ between a e block.old.items }
+    ensures len { length block.new.items ≡ length block.old.items }
+    ensures capacity { vec_capacity block.old ≤ vec_capacity block.new }
 {
-    buffer.clear();
-    if buffer.extend_from_slice(bytes).is_err() {
+    let end = at + bytes.len();
+    block[at..end].copy_from_slice(bytes);
+}
+
+/// Fills the slot of `room` bytes that begins at `at`, and leaves the others. Copies the bytes, and takes no memory.
+pub(crate) fn fill(block: &mut Vec<u8>, at: usize, room: usize, bytes: &[u8])
+    requires within { at + room ≤ vec_capacity block.old }
+    requires fits { length bytes.now ≤ room }
+    ensures here { between at (at + length bytes.now) block.new.items ≡ bytes.now }
+    ensures before { (a e : ℕ) → e ≤ at → e ≤ length block.old.items → between a e block.new.items ≡ between a e block.old.items }
+    ensures behind { (a e : ℕ) → at + room ≤ a → e ≤ length block.old.items → between a e block.new.items ≡ between a e block.old.items }
+    ensures end { at + room ≤ length block.new.items }
+    ensures longer { length block.old.items ≤ length block.new.items }
+    ensures capacity { vec_capacity block.old ≤ vec_capacity block.new }
+{
+    reach(block, at + room);
+    write(block, at, bytes);
+}
+
+/// Adds a packet behind the others. Takes no memory.
+pub(crate) fn push(slots: &mut HeapCircularBuffer<Slot>, slot: Slot)
+    requires { length slots.old.items < slots.old.capacity }
+    ensures { slots.new ≡ buffer (slots.old.items ++ slot ∷ []) slots.old.capacity }
+{
+    if slots.try_push_back(slot).is_err() {
         unreachable!();
     }
-    buffer
 }

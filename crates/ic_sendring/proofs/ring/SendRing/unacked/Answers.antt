@@ -6,10 +6,10 @@ use Rattle.ic_sendring.proofs.ring.SendRing.unacked.Goals as goal
 pub overflow_cast-result : goal.overflow_cast-result
 overflow_cast-result c =
     let s = c.self.inside in
-    let low = (within_of s.depth s.packet s.sealed s.sent s.slots.items _ s.spare.items _ c.self.invariant).0 in
-    omega (arith, low, c.len.ensures, s.slots.ok.0, c.self.invariant.ring.greatest)
+    let low = (within_of s.depth s.packet s.sealed s.sent s.slots.items _ s.block.items _ c.self.invariant).0 in
+    omega (arith, low, c.len.ensures.len, c.self.invariant.ring.greatest)
 
 pub returns-clause-value : goal.returns-clause-value
 returns-clause-value c =
     let s = c.self.inside in
-    c.len.ensures ∙ s.slots.ok.0 ∙ sym (long_of s.depth s.packet s.sealed s.sent s.slots.items _ s.spare.items _ c.self.invariant) ∙ ap (λ (t : Ring). length t.kept) c.self.view_is
+    c.len.ensures.len ∙ sym (long_of s.depth s.packet s.sealed s.sent s.slots.items _ s.block.items _ c.self.invariant) ∙ ap (λ (t : Ring). length t.kept) c.self.view_is
