@@ -27,7 +27,7 @@ NoPacketSpent settings h ends = (end : ConnEnd) → Contains ends end → packet
 abbrev pub NoQuerySpent : Settings → List Entry → List ConnEnd → Type 0
 NoQuerySpent settings h ends = (end : ConnEnd) → Contains ends end → query_spent settings h end ≡ []
 
--- where neither is, nothing is given up
+-- if neither is, nothing is given up
 abbrev pub NothingSpent : Type 0
 NothingSpent = (settings : Settings) (h : List Entry) (ends : List ConnEnd) → NoPacketSpent settings h ends → NoQuerySpent settings h ends → spent_of settings h ends ≡ []
 
@@ -41,7 +41,7 @@ abbrev pub PacketSpentFirst : Type 0
 PacketSpentFirst = (settings : Settings) (h : List Entry) (front : List ConnEnd) (end : ConnEnd) (back : List ConnEnd) (first : ConnKey × ℕ) (more : List (ConnKey × ℕ))
     → NoPacketSpent settings h front → packets_spent settings h end ≡ first ∷ more → SpendsFirst settings h (front ++ end ∷ back) first
 
--- where no end has one, the status query of the first end with one
+-- if no end has one, the status query of the first end with one
 abbrev pub QuerySpentFirst : Type 0
 QuerySpentFirst = (settings : Settings) (h : List Entry) (front : List ConnEnd) (end : ConnEnd) (back : List ConnEnd) (first : ConnKey × ℕ) (more : List (ConnKey × ℕ))
     → NoPacketSpent settings h (front ++ end ∷ back) → NoQuerySpent settings h front → query_spent settings h end ≡ first ∷ more → SpendsFirst settings h (front ++ end ∷ back) first

@@ -67,7 +67,7 @@ pub record IsSentHere (h : List Entry) (d : Datagram) : Type 0 where
 
 -- ---- entries of one end
 
--- the ask is of one end: of c's sending end where the side is true, else of its receiving end
+-- the ask is of one end: of c's sending end if the side is true, else of its receiving end
 pub data AsksOf (place : Place) (c : ConnKey) (side : Bool) (e : Entry) : Type 0 where
   OfPut : side ≡ true → (chunk : List ℕ) → e.ask ≡ Put c chunk → AsksOf place c side e
   OfFinish : side ≡ true → e.ask ≡ Finish c → AsksOf place c side e

@@ -21,7 +21,7 @@ use Rattle.ic_hub_laws.specs.Entries.{IsOurs, HasEnd, EndsKeep, Concerns, IsNoug
 
 -- ---- what an entry leaves standing
 
--- the entry is silent for a sending end, and where the end isn't here, it comes before it
+-- the entry is silent for a sending end, and if the end isn't here, it comes before it
 pub record PassesSending (end : ConnEnd) (h : List Entry) (e : Entry) : Type 0 where
   pub silent : IsSilent end h e
   pub before : (IsHere end h → ⊥) → IsBefore end h e
@@ -52,7 +52,7 @@ pub record Holds (place : Place) (h : List Entry) (e : Entry) : Type 0 where
   pub allowed : e.reply ≢ Memory → IsAllowed place h e.ask
   pub formed : (d : Datagram) → Contains (emits e) d → IsFormed place d
 
--- An entry about an end that is here has its points, where a take from any sender was answered in their order.
+-- An entry about an end that is here has its points, if a take from any sender was answered in their order.
 abbrev pub ConcernedPoint : Type 0
 ConcernedPoint = (place : Place) (c : ConnKey) (side : Bool) (h : List Entry) (e : Entry) → Concerns place c side e → HasEnd place c side h → Holds place h e
     → ((query motion : ℕ) → e.ask ≡ Take query motion → AnswersTakeAny query motion h e.reply) → HubPoint place h e

@@ -21,7 +21,7 @@ pub fn tick_passes()
     ensures { TickPasses }
 {}
 
-/// An entry about an end that is here has the points of a hub, where each end keeps its own.
+/// An entry about an end that is here has the points of a hub, if each end keeps its own.
 pub fn concerned_point()
     ensures { ConcernedPoint }
 {}
@@ -131,7 +131,7 @@ pub fn clock_moves()
     ensures { ClockMoves }
 {}
 
-/// Where no packet and no status query of these ends is given up, nothing is.
+/// If no packet and no status query of these ends is given up, nothing is.
 pub fn nothing_spent()
     ensures { NothingSpent }
 {}
@@ -141,7 +141,7 @@ pub fn packet_spent_first()
     ensures { PacketSpentFirst }
 {}
 
-/// Where none has one, it is the status query of the first end with one.
+/// If none has one, it is the status query of the first end with one.
 pub fn query_spent_first()
     ensures { QuerySpentFirst }
 {}

@@ -17,7 +17,7 @@ pub record IsRunEnd (numbers : List ℕ) (r : ℕ) : Type 0 where
   pub run : (n : ℕ) → 1 ≤ n → n ≤ r → Contains numbers n
   pub end : Contains numbers (r + 1) → ⊥
 
--- the greatest of these numbers; 0, which no packet has, where there is none
+-- the greatest of these numbers; 0, which no packet has, if there is none
 pub record IsGreatest (numbers : List ℕ) (g : ℕ) : Type 0 where
   pub bound : (n : ℕ) → Contains numbers n → n ≤ g
   pub here : (g ≡ 0) ⊎ Contains numbers g

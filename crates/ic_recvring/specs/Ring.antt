@@ -40,7 +40,7 @@ pub record IsRing (s : Ring) : Type 0 where
 abbrev pub empty : ℕ → ℕ → Ring
 empty depth packet = record { consumed = 0; kept = []; depth = depth; packet = packet }
 
--- ---- storing, where the run ends at r
+-- ---- storing, if the run ends at r
 
 -- a packet that had come before: its number is at most the run's end, or kept
 abbrev pub IsRepeated : Ring → ℕ → ℕ → Type 0
@@ -49,7 +49,7 @@ IsRepeated s r n = (n ≤ r) ⊎ Contains (numbers s.kept) n
 abbrev pub IsNew : Ring → ℕ → ℕ → Type 0
 IsNew s r n = (r < n) × (Contains (numbers s.kept) n → ⊥)
 
--- a packet that the ring has no room for: past the depth behind what was consumed, or too long
+-- a packet that the ring has no room for: past the number consumed and the depth, or too long
 abbrev pub IsBeyond : Ring → Packet → Type 0
 IsBeyond s p = (s.consumed + s.depth < p.seq) ⊎ (room_of s.packet < length p.payload)
 
@@ -68,7 +68,7 @@ Stores s r p Stored after = IsNew s r p.seq × HasRoom s p × (after ≡ record 
 
 -- ---- consuming
 
--- the packet behind the last one consumed, where it is kept
+-- the packet after the last one consumed, if it is kept
 abbrev pub front_of : Ring → Option Packet
 front_of s = find (λ p. p.seq == s.consumed + 1) s.kept
 

@@ -36,6 +36,6 @@ abbrev pub window : (ℕ → Option Packet) → ℕ → ℕ → List Packet
 window at n zero = []
 window at n (suc count) = joined (at n) (window at (n + 1) count)
 
--- as many numbers as the ring is deep are kept, behind the last one consumed
+-- as many numbers as the ring is deep are kept, after the last one consumed
 abbrev pub ring_of : ℕ → ℕ → ℕ → List Slot → Ring
 ring_of depth packet consumed slots = record { consumed = consumed; kept = window (packet_at slots depth) (consumed + 1) depth; depth = depth; packet = packet }

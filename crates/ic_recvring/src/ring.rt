@@ -129,7 +129,7 @@ impl RecvRing {
         self.consumed = seq;
     }
 
-    /// The greatest number up to which all packets from 1 were stored, 0 where packet 1 wasn't.
+    /// The greatest number up to which all packets from 1 were stored, 0 if packet 1 wasn't.
     pub fn run_end(&self) -> u32
         ensures value { IsRunEnd (stored_of self.now) result }
         ensures ring { IsRing self.now }
@@ -137,7 +137,7 @@ impl RecvRing {
         self.run
     }
 
-    /// The number of the last packet consumed, 0 where none was.
+    /// The number of the last packet consumed, 0 if none was.
     pub fn consumed(&self) -> u32
         ensures value { result ≡ self.now.consumed }
         ensures ring { IsRing self.now }
@@ -145,7 +145,7 @@ impl RecvRing {
         self.consumed
     }
 
-    /// The greatest number stored, consumed or not: the run's end where nothing is kept beyond it.
+    /// The greatest number stored, consumed or not: the run's end if nothing is kept beyond it.
     pub fn greatest(&self) -> u32
         ensures value { IsGreatest (stored_of self.now) result }
         ensures ring { IsRing self.now }

@@ -17,7 +17,7 @@ pub(crate) fn is_kept(slots: &[Slot], depth: u32, seq: u32) -> bool
     slots[(seq % depth) as usize].kept
 }
 
-/// How far the run goes on behind `run`, up to `top` at most.
+/// How far the run goes on after `run`, up to `top` at most.
 pub(crate) fn run_on(slots: &[Slot], depth: u32, run: u32, top: u32) -> u32
     requires depth { length slots.now ≡ depth }
     requires top { run ≤ top }
@@ -33,7 +33,7 @@ pub(crate) fn run_on(slots: &[Slot], depth: u32, run: u32, top: u32) -> u32
     end
 }
 
-/// The greatest number that is kept, of those up to `top` and behind `consumed`, or else that one.
+/// The greatest number that is kept, of those up to `top` and after `consumed`, or else that one.
 pub(crate) fn top_from(slots: &[Slot], depth: u32, consumed: u32, top: u32) -> u32
     requires depth { length slots.now ≡ depth }
     requires top { consumed ≤ top }
@@ -49,7 +49,7 @@ pub(crate) fn top_from(slots: &[Slot], depth: u32, consumed: u32, top: u32) -> u
     greatest
 }
 
-/// The numbers behind `run` and up to `top` that aren't kept.
+/// The numbers after `run` and up to `top` that aren't kept.
 pub(crate) fn absent(
     alloc: Global,
     slots: &[Slot],

@@ -83,7 +83,7 @@ next_of s = bare (find (λ k. not k.sent) s.kept)
 abbrev pub packet_at : ℕ → Ring → Option Packet
 packet_at seq s = bare (find (λ k. k.packet.seq == seq) s.kept)
 
--- this packet, sent now where it has this number
+-- this packet, sent now if it has this number
 abbrev pub marked : ℕ → Kept → Kept
 marked seq k = record k { sent = k.sent || (k.packet.seq == seq) }
 

@@ -1,4 +1,4 @@
--- Packets in memory, without where they lie.
+-- Packets in memory, without their place in memory.
 use Rattle.std.specs.Prelude.{ℕ, zero, suc, ◌+◌, List, [], ◌∷◌, map, Bool, true, false, Option}
 use Rattle.std.specs.List.{between}
 use Rattle.std.specs.Option.{option_map}

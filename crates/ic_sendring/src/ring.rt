@@ -18,7 +18,7 @@ const HEADER: u32 = 64;
 /// packet in bytes.
 ///
 /// What TCP calls a send buffer with its retransmission queue. All its room is taken by `with_depth`, with one block for
-/// all payloads; a payload is copied once, when it is sealed, and stays where it lies until it is freed.
+/// all payloads; a payload is copied once, when it is sealed, and stays in place until it is freed.
 #[derive(Drop)]
 pub struct SendRing {
     depth: u32,
@@ -29,7 +29,7 @@ pub struct SendRing {
     sent: usize,
     /// By increasing number without a gap, with places for `depth` of them.
     slots: HeapCircularBuffer<Slot>,
-    /// Payload slots, one behind the other: packet s is in slot s - 1 modulo the depth. It is as long as the slots that
+    /// Payload slots, one after another: packet s is in slot s - 1 modulo the depth. It is as long as the slots that
     /// were used.
     block: Vec<u8>,
 }
@@ -155,7 +155,7 @@ impl SendRing {
         if seq > self.sealed {
             return None;
         }
-        // How many packets are behind it.
+        // How many packets are after it.
         let behind = (self.sealed - seq) as usize;
         if behind >= self.slots.len() {
             return None;

@@ -12,7 +12,7 @@ use circular_buffer::HeapCircularBuffer;
 pub(crate) struct Slot {
     pub seq: u32,
     pub last: bool,
-    /// Where its slot begins.
+    /// If its slot begins.
     pub at: usize,
     /// How many bytes of the slot are its payload.
     pub len: usize,
@@ -34,7 +34,7 @@ impl Slot {
     }
 }
 
-/// Makes the slot that begins at `at` part of the block, where it isn't yet: slots are used one behind the other at
+/// Makes the slot that begins at `at` part of the block, if it isn't yet: slots are used one after another at
 /// first. Takes no memory.
 fn reach(block: &mut Vec<u8>, end: usize)
     requires { end ≤ vec_capacity block.old }
@@ -78,7 +78,7 @@ pub(crate) fn fill(block: &mut Vec<u8>, at: usize, room: usize, bytes: &[u8])
     write(block, at, bytes);
 }
 
-/// Adds a packet behind the others. Takes no memory.
+/// Adds a packet after the others. Takes no memory.
 pub(crate) fn push(slots: &mut HeapCircularBuffer<Slot>, slot: Slot)
     requires { length slots.old.items < slots.old.capacity }
     ensures { slots.new ≡ buffer (slots.old.items ++ slot ∷ []) slots.old.capacity }

@@ -43,7 +43,7 @@ fn send(ring: &mut SendRing)
     }
 }
 
-/// Seals eight bytes, where packets have room for them.
+/// Seals eight bytes, if packets have room for them.
 fn seal(ring: &mut SendRing, payload: &[u8; 8], last: bool) -> Option<u32>
     requires { ring.old.packet ≡ 72 }
     ensures { ring.new.packet ≡ ring.old.packet }
