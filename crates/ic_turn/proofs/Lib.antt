@@ -5,3 +5,5 @@ pub mod Keeps
 pub mod PassLemmas
 pub mod Crosses
 pub mod Manies
+pub mod Trying
+pub mod CounterCrosses

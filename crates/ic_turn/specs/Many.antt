@@ -1,6 +1,6 @@
 -- The passes of many workers.
-use Rattle.std.specs.Prelude.{ℕ, zero, suc, List, [], ◌∷◌}
-use Rattle.ic_turn.specs.Passes.{Passing, given_as, joined_with}
+use Rattle.std.specs.Prelude.{◌≡◌, ℕ, zero, suc, List, [], ◌∷◌}
+use Rattle.ic_turn.specs.Passes.{Passing, Grows, given_as, joined_with}
 
 module _ {A R K : Type 0} where
   -- so many that it gives, from the number after this one on
@@ -16,3 +16,11 @@ module _ {A R K : Type 0} where
   abbrev pub all_joined : Passing A R K → List (Passing A R K) → Passing A R K
   all_joined p [] = p
   all_joined p (q ∷ qs) = all_joined (joined_with p q) qs
+
+  -- two passes with so many entries of their own more, as one
+  abbrev pub HaveBoth : ℕ → Passing A R K → Passing A R K → Passing A R K → Type 0
+  HaveBoth n a b both = (a' b' : Passing A R K) × Grows n a a' × Grows n b b' × (both ≡ joined_with a' b')
+
+  -- four passes, two and two
+  abbrev pub HaveAll : ℕ → Passing A R K × Passing A R K → Passing A R K × Passing A R K → Passing A R K → Type 0
+  HaveAll n first second all = (ab cd : Passing A R K) × HaveBoth n first.0 first.1 ab × HaveBoth n second.0 second.1 cd × (all ≡ joined_with ab cd)

@@ -27,6 +27,10 @@ module _ {A R : Type 0} where
   abbrev pub part_of : ℕ → List (Numbered A R) → List (Placed A R)
   part_of k list = part_from 0 k list
 
+  -- the entries with the number k
+  abbrev pub entries_by : ℕ → List (Numbered A R) → List (Entry A R)
+  entries_by k list = map (λ (c : Placed A R). c.entry) (part_of k list)
+
   -- the part of a number that has no entries
   abbrev pub blank : ℕ → Part A R
   blank k = record { number = k; entries = [] }

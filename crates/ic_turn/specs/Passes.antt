@@ -1,5 +1,5 @@
 -- What callers see of a pass, and what the calls of a turn do to it.
-use Rattle.std.specs.Prelude.{◌≡◌, ℕ, ◌+◌, ◌-◌, List, [], ◌∷◌, ◌++◌, Some}
+use Rattle.std.specs.Prelude.{◌≡◌, ℕ, ◌+◌, ◌-◌, List, [], ◌∷◌, ◌++◌, length, Some}
 use Rattle.atomic_table.specs.Seated.{TableId}
 use Rattle.atomic_table.specs.Table.{Me}
 use Rattle.ic_turn.specs.declared.view.Placed.{Placed}
@@ -54,6 +54,10 @@ module _ {A R K : Type 0} where
   -- nothing is added, and once another was met
   abbrev pub met_once : Passing A R K → Passing A R K
   met_once p = record p { met = p.met + 1 }
+
+  -- so many entries of its own are added
+  abbrev pub Grows : ℕ → Passing A R K → Passing A R K → Type 0
+  Grows n p q = (more : List (Placed A R)) × (length more ≡ n) × (q ≡ record p { mine = p.mine ++ more; met = q.met })
 
   -- a pass that gave away its greatest spare number
   abbrev pub giver : Passing A R K → Passing A R K

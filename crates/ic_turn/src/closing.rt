@@ -43,11 +43,11 @@ impl<M: Machine> Turn<M> {
             number: _,
             spare: _,
             turn: _,
-            mut seat,
+            seat: mut place,
         } = pass;
-        end(&self.table, &mut seat);
+        end(&self.table, &mut place);
         Closed {
-            list: Snapshot::of(&seat),
+            list: Snapshot::of(&place),
         }
     }
 

@@ -1,10 +1,11 @@
-//! What serves asks one at a time, seen through the list of its asks and replies. No thread, no lock and no clock.
+//! What serves asks one at a time, seen through the list of its asks and replies, and the turn, by which many callers
+//! share it. No clock, no socket, and no thread of its own.
 //!
 //! A [`Machine`] says what its list of entries may be; [`act_all`] asks one several things in order. [`Counter`] is a
-//! small machine, for tests of code over any. The turn, a ticket lock over a machine that gives each caller the entries
-//! of its own calls, comes into this crate later.
+//! small machine, for tests of code over any. A [`Turn`] is a ticket lock over a machine that gives each caller the
+//! entries of its own calls: each calls with a [`Pass`], and the whole list comes back as [`Closed`].
 //!
-//! Below: std alone. Above: the hub of a segment, the network, and whatever several callers ask.
+//! Below: a lock-free table of the kit. Above: the hub of a segment, the network, and whatever several callers ask.
 #![tactic(auto)]
 
 mod board;
