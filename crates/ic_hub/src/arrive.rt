@@ -288,8 +288,10 @@ impl Hub {
     }
 
     /// The network hands a datagram over. Gives what became of it and the datagrams that are emitted. Costs reading the
-    /// header, one look-up and what the connection does; takes memory for the answer alone. A dropped datagram raises one
-    /// count and changes nothing else.
+    /// header, one look-up and what the connection does; takes memory for the answer, and for the packets that first go
+    /// out with it. The payload of a packet of rows is copied once, into the receiver's ring; an answer copies each packet
+    /// that first goes out with it once, and none that goes out again. A dropped datagram raises one count and changes
+    /// nothing else.
     pub fn arrive(
         &mut self,
         alloc: Global,

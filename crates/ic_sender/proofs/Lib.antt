@@ -17,4 +17,3 @@ mod Packets
 pub mod MayWaiting
 mod Ending
 mod WordLemmas
-mod LoneLemmas

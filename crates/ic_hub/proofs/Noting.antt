@@ -20,15 +20,15 @@ use Rattle.ic_law.specs.declared.history.TickNo.{TickNo}
 use Rattle.ic_law.specs.declared.history.Entry.{Entry}
 use Rattle.ic_law.specs.History.{datagram_in, arrived_of}
 use Rattle.ic_law.specs.Queries.{left_by, left_of}
-use Rattle.ic_law.specs.Points.{IsLive}
+use Rattle.ic_law.specs.Points.{IsLive, place_at}
 use Rattle.ic_law.proofs.Lists.{flat_map-append, Contains-none}
 use Rattle.ic_law.proofs.Lives.{live_push}
-use Rattle.ic_hub.specs.Hubbing.{Hubbing}
+use Rattle.ic_hub.specs.Hubbing.{Hubbing, place_in}
 use Rattle.ic_hub.specs.Standing.{Stands}
 use Rattle.ic_hub.specs.Entries.{begun_of, gave_of, took_of, ticked_of}
 use Rattle.ic_law.specs.Logs.{logs, logs_by, log_of}
-use Rattle.ic_port.specs.Telling.{noted}
-use Rattle.ic_port.specs.Calls.{begin_in, begins_of}
+use Rattle.ic_hub.specs.Noting.{noted}
+use Rattle.ic_hub.specs.Calls.{SamePlace}
 
 -- ---- lists
 
@@ -42,10 +42,7 @@ all_map P Q f (x ∷ xs) all = (f x all.0, all_map P Q f xs all.1)
 
 -- ---- by the reply
 
-pub entry_of : HubAsk → HubReply → Entry
-entry_of ask reply = record { ask = ask; reply = reply }
-
--- nothing for want of memory, else the entry
+-- nothing if it found no memory, else the entry
 pub noted_cases : (ask : HubAsk) (reply : HubReply) → ((reply ≡ Memory) × (noted ask reply ≡ [])) ⊎ (noted ask reply ≡ record { ask = ask; reply = reply } ∷ [])
 noted_cases ask (Begun r) = inr refl
 noted_cases ask (Gave r) = inr refl
@@ -85,12 +82,6 @@ noted_left ask reply none_left = elim (noted_cases ask reply) [
   | inr h ↦ ap left_of h ∙ append-nil (left_by ask reply) ∙ none_left
 ]
 
-pub noted_begun : (ask : HubAsk) (reply : HubReply) → begin_in ask ≡ [] → begins_of (noted ask reply) ≡ []
-noted_begun ask reply none_begun = elim (noted_cases ask reply) [
-  | inl h ↦ ap begins_of h.1
-  | inr h ↦ ap begins_of h ∙ append-nil (begin_in ask) ∙ none_begun
-]
-
 -- the hub stands for the history with what the call adds
 pub noted_stands : (a b : Hubbing) (h : List Entry) (ask : HubAsk) (reply : HubReply) → (reply ≡ Memory → b ≡ a) → (Stands a h → Stands b (h ++ record { ask = ask; reply = reply } ∷ [])) → Stands a h → Stands b (h ++ noted ask reply)
 noted_stands a b h ask reply same stands was = elim (noted_cases ask reply) [
@@ -106,7 +97,7 @@ noted_lives query ends h ask reply none_left live = elim (noted_cases ask reply)
       (live_push query ends h (record { ask = ask; reply = reply }) live (λ at. Contains-none query (subst (λ l. Contains l query) none_left at)))
 ]
 
--- ---- want of memory
+-- ---- out of memory
 
 pub begun_memory : (P : Type 0) (r : Result (Unit {0}) BeginNo) → OnErr r P → begun_of r ≡ Memory → P
 begun_memory P (Ok u) h m = cc
@@ -123,6 +114,14 @@ took_memory P (Err e) h m = h
 pub ticked_memory : (P : Type 0) (r : Result (List Datagram) TickNo) → OnErr r P → ticked_of r ≡ Memory → P
 ticked_memory P (Ok ds) h m = cc
 ticked_memory P (Err e) h m = h
+
+-- ---- places
+
+pub place_same : (a b : Hubbing) → SamePlace a b → place_in b ≡ place_in a
+place_same a b same = ap (λ x. place_at x b.at b.settings) same.session ∙ ap (λ x. place_at a.session x b.settings) same.at ∙ ap (λ x. place_at a.session a.at x) same.settings
+
+pub same_self : (a : Hubbing) → SamePlace a a
+same_self a = record { session = refl; at = refl; settings = refl }
 
 -- ---- logs
 
@@ -159,7 +158,3 @@ log_on query h more = flat_map-append (logs query) h more
 pub noted_log : (query : ℕ) (h : List Entry) (ask : HubAsk) (reply : HubReply) (asked : PortAsk) (told : PortReply) → added asked told ≡ logs_by query ask reply
     → log_of query (h ++ noted ask reply) ≡ logged asked told (log_of query h)
 noted_log query h ask reply asked told same = log_on query h (noted ask reply) ∙ ap (λ l. log_of query h ++ l) (noted_logs query ask reply ∙ sym same)
-
--- the test on one number and itself
-pub its_own : {A : Type 0} (n : ℕ) (xs : List A) → cond (n == n) xs [] ≡ xs
-its_own n xs = ap (λ b. cond b xs []) ((Decides-eqb n n).1 refl)

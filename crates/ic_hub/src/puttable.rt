@@ -4,8 +4,9 @@ ghost use Rattle.ic_chunk.specs.declared.chunk.ChunkKind.TheVariants.{EndOfStrea
 ghost use Rattle.ic_chunk.specs.Chunks.{chunk_of, kind_number, allows, spelled};
 ghost use Rattle.ic_law.specs.Points.{Place};
 ghost use Rattle.ic_law.specs.Asking.{IsPuttable};
-ghost use Rattle.ic_port.specs.Putting.{IsTuple};
+ghost use Rattle.ic_hub.specs.Putting.{IsTuple};
 
+use ic_base::Settings;
 use ic_chunk::ChunkKind;
 
 /// The kind of a number, where chunks of that kind are put.
@@ -66,10 +67,12 @@ fn is_head(head: &[u8; 4], size: u16) -> bool
     allows(kind, size) && *head == head_of(kind, size)
 }
 
-/// Whether these bytes are one tuple chunk, not an end of stream, and a packet of so many bytes has room for it.
-pub(crate) fn is_puttable(packet: u32, bytes: &[u8]) -> bool
-    ensures { (place : Place) → place.settings.packet ≡ packet → IsTrue result → IsPuttable place bytes.now }
+/// Whether these bytes are one tuple chunk, not an end of stream, and a packet of these settings has room for it: only
+/// then [`Hub::put`](crate::Hub::put) puts it. Looks at the four bytes in front and at the length.
+pub fn is_puttable(settings: &Settings, bytes: &[u8]) -> bool
+    ensures { (place : Place) → place.settings ≡ settings.now → IsTrue result → IsPuttable place bytes.now }
 {
+    let packet = settings.packet;
     if packet < 68 || bytes.len() > packet as usize - 68 {
         return false;
     }
