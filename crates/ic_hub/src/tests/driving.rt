@@ -1,5 +1,5 @@
 // A caller with a hub of session 7. All is of a gather: motion 1, which ends at the dispatcher.
-ghost use Rattle.std.specs.Prelude.{◌≡◌, ◌≤◌, [], ◌∷◌, negsuc};
+ghost use Rattle.std.specs.Prelude.{◌≡◌, negsuc};
 ghost use Rattle.ic_law.specs.Asking.{IsEndHere};
 ghost use Rattle.ic_hub.specs.Hubbing.{place_in};
 
@@ -31,7 +31,7 @@ pub fn begun(alloc: Global, at: i32) -> Result<Hub, Fail> {
 pub fn at(hub: &Hub) -> SegId
     ensures { result ≡ hub.now.at }
 {
-    hub.at
+    hub.at()
 }
 
 /// The gather of a query from this segment.
@@ -42,7 +42,7 @@ pub fn gather(hub: &Hub, query: u32, from: SegId) -> ConnKey
     ensures to { result.to ≡ negsuc 0 }
 {
     ConnKey {
-        session: hub.session,
+        session: hub.session(),
         query,
         motion: 1,
         from,
@@ -94,15 +94,6 @@ fn begin(hub: &mut Hub, alloc: Global, query: u32) -> Result<Result<(), BeginNo>
 }
 
 /// The tuple chunk of a row with one whole number.
-pub fn chunk(row: u8) -> [u8; 15]
-    ensures { result ≡ 0 ∷ 11 ∷ 0 ∷ 0 ∷ 0 ∷ 1 ∷ 1 ∷ 0 ∷ 0 ∷ 0 ∷ 0 ∷ 0 ∷ 0 ∷ 0 ∷ row ∷ [] }
-{
+pub fn chunk(row: u8) -> [u8; 15] {
     [0, 11, 0, 0, 0, 1, 1, 0, 0, 0, 0, 0, 0, 0, row]
-}
-
-/// Does nothing but look. Its clause: settings are checked, so that a chunk of a row has room.
-pub fn has_room(hub: &Hub)
-    ensures { 128 ≤ hub.now.settings.packet }
-{
-    let _table = &hub.table;
 }
