@@ -17,3 +17,4 @@ mod Packets
 pub mod MayWaiting
 mod Ending
 mod WordLemmas
+mod Listed

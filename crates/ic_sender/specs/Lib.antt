@@ -4,3 +4,4 @@ pub mod Entries
 pub mod Standing
 pub mod Views
 pub mod Laws
+pub mod Listed
