@@ -3,10 +3,12 @@ use Rattle.ic_base.specs.declared.port.PortAsk.TheVariants as ask
 use Rattle.ic_base.specs.Ports.{did}
 use Rattle.ic_law.specs.declared.history.HubAsk.TheVariants.{Put}
 use Rattle.ic_hub.specs.Entries.{gave_of}
+use Rattle.ic_base.specs.declared.keys.ConnKey.{ConnKey}
 use Rattle.ic_port.specs.Noding.{Noding}
+use Rattle.ic_port.specs.Calls.{Works}
 use Rattle.ic_port.specs.contracts.node.Node.{the_view}
 use Rattle.ic_hub.proofs.Noting.{gave_memory}
-use Rattle.ic_port.proofs.Keeping.{Notes, notes_keep}
+use Rattle.ic_port.proofs.Keeping.{Notes, after, notes_keep, notes_works}
 use Rattle.ic_port.proofs.Keys.{key_of}
 use Rattle.ic_port.proofs.Serving.{called_notes, sends_ours, its_query, put_same, called_log, put_may}
 use Rattle.ic_port.proofs.port.NodePort.put.Goals as goal
@@ -32,6 +34,11 @@ notes c =
 pub invariant_of-self-2 : goal.invariant_of-self-2
 invariant_of-self-2 c =
     notes_keep (the_view c.self.inside) c.put-answer.new.self c.note.new.entries.items (Put c.key_to-key.result c.args.chunk.now) (gave_of c.put-answer.result) c.self.invariant (notes c) refl
+
+pub returns-clause-steps : goal.returns-clause-steps
+returns-clause-steps c =
+    subst (λ (m : Noding). Works m (after (the_view c.self.inside) c.put-answer.new.self c.self.inside.query c.self.inside.ends.items c.note.new.entries.items)) c.self.view_is
+    (notes_works (the_view c.self.inside) c.put-answer.new.self c.note.new.entries.items (Put c.key_to-key.result c.args.chunk.now) (gave_of c.put-answer.result) (notes c) (ap (λ (k : ConnKey). k.query) (key_is c)) refl refl refl)
 
 pub returns-clause-log : goal.returns-clause-log
 returns-clause-log c =

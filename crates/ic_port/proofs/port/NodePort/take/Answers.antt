@@ -13,7 +13,7 @@ use Rattle.ic_port.proofs.Serving.{called_notes, take_same, called_log}
 use Rattle.ic_port.proofs.Taken.{any_from, taken_logs, taken_given, taken_may, taken_counts}
 use Rattle.ic_port.proofs.port.NodePort.take.Goals as goal
 
-notes : (c : goal.After-note) → Notes (the_view c.self.inside) c.take-answer.new.self c.note.new.entries.items (Take c.self.inside.query c.args.motion) (took_of c.take-answer.result)
+notes : (c : goal.After-told_taken) → Notes (the_view c.self.inside) c.take-answer.new.self c.note.new.entries.items (Take c.self.inside.query c.args.motion) (took_of c.take-answer.result)
 notes c =
     called_notes (the_view c.self.inside) c.take-answer.new.self c.note.new.entries.items c.reserve.new.self.items (Take c.self.inside.query c.args.motion) (Take c.self.inside.query c.args.motion) (took_of c.take-answer.result) c.took-taken.result.0
     (record {

@@ -15,10 +15,10 @@ use Rattle.ic_port.proofs.Serving.{called_notes, ends_ours, its_query, take_from
 use Rattle.ic_port.proofs.Taken.{one_from, taken_logs, taken_given, taken_may, taken_counts}
 use Rattle.ic_port.proofs.port.NodePort.take_from.Goals as goal
 
-key_is : (c : goal.After-note) → c.key_from-key.result ≡ key_of c.self.inside.hub.session c.self.inside.query c.args.motion c.args.sender c.self.inside.hub.at
+key_is : (c : goal.After-told_taken) → c.key_from-key.result ≡ key_of c.self.inside.hub.session c.self.inside.query c.args.motion c.args.sender c.self.inside.hub.at
 key_is c = subst (λ (m : Noding). c.key_from-key.result ≡ key_of m.hub.session m.query c.args.motion c.args.sender m.hub.at) (sym c.self.view_is) c.key_from-key.ensures
 
-notes : (c : goal.After-note) → Notes (the_view c.self.inside) c.take_from-answer.new.self c.note.new.entries.items (TakeFrom c.key_from-key.result) (took_of c.take_from-answer.result)
+notes : (c : goal.After-told_taken) → Notes (the_view c.self.inside) c.take_from-answer.new.self c.note.new.entries.items (TakeFrom c.key_from-key.result) (took_of c.take_from-answer.result)
 notes c =
     called_notes (the_view c.self.inside) c.take_from-answer.new.self c.note.new.entries.items c.reserve.new.self.items (TakeFrom c.key_from-key.result) (TakeFrom c.key_from-key.result) (took_of c.take_from-answer.result) c.took-taken.result.0
     (record {
