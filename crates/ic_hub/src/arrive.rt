@@ -15,12 +15,12 @@ use crate::hub::Hub;
 use crate::query::Query;
 use crate::take::listed;
 use ic_base::{ConnKey, Datagram, Datagrams, SegId};
+use ic_conntab::Sides;
 use ic_header::{Flags, Header, read, turned_packet};
 use ic_law::{Arrived, DropCause};
-use ic_timed_sender::TimedSender;
-use ic_conntab::Sides;
 use ic_receiver::Receiver;
 use ic_sender::SendNo;
+use ic_timed_sender::TimedSender;
 use std::alloc::{AllocError, Global};
 
 /// Whether a packet goes from the sending end to the receiving one.

@@ -14,9 +14,9 @@ ghost use Rattle.ic_hub.specs.Beginning.{IsBetween, SendsFirst, ReceivesFirst, s
 use crate::hub::Hub;
 use crate::query::Query;
 use ic_base::{BeginNo, ConnEnd, SegId, Settings};
-use ic_timed_sender::TimedSender;
 use ic_conntab::Places;
 use ic_receiver::Receiver;
+use ic_timed_sender::TimedSender;
 use std::alloc::{AllocError, Global};
 
 /// Does nothing. Its clause: an end is of segments.

@@ -6,8 +6,7 @@ ghost use Rattle.ic_hub.specs.Finding.{IsFound, FindsSender, FindsReceiver};
 
 use crate::hub::Hub;
 use ic_base::ConnKey;
-use ic_conntab::Find;
-use ic_conntab::Sides;
+use ic_conntab::{Find, Sides};
 
 /// What a hub says of a connection.
 #[derive(Clone, Copy)]

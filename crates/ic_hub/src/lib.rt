@@ -31,11 +31,11 @@ mod take;
 mod tick;
 
 pub use counts::Counts;
-pub use hub::Hub;
-pub use laws::{ends_tell, keeps_law, live_tells, stays_armed};
 pub use entry::note;
-pub use puttable::is_puttable;
+pub use hub::Hub;
 pub use ic_receiver::SharedParcel;
+pub use laws::{ends_tell, keeps_law, live_tells, stays_armed};
+pub use puttable::is_puttable;
 
 #[cfg(test)]
 mod tests;

@@ -44,12 +44,7 @@ impl Query {
 
 impl Hub {
     /// A chunk that can be put.
-    fn put_chunk(
-        &mut self,
-        alloc: Global,
-        key: &ConnKey,
-        chunk: &[u8],
-    ) -> Result<Datagrams, HubNo>
+    fn put_chunk(&mut self, alloc: Global, key: &ConnKey, chunk: &[u8]) -> Result<Datagrams, HubNo>
         requires chunk { IsPuttable (place_in self.old) chunk.now }
         ensures err { OnErr result (self.new ≡ self.old) }
         ensures place { SamePlace self.old self.new }

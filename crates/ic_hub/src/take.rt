@@ -188,7 +188,11 @@ impl Hub {
     }
 
     /// The slice takes the next parcel of one sender, for two owners. Copies the payload once, out of the ring.
-    pub fn take_from(&mut self, alloc: Global, key: &ConnKey) -> Result<(SharedParcel, Datagrams), HubNo>
+    pub fn take_from(
+        &mut self,
+        alloc: Global,
+        key: &ConnKey,
+    ) -> Result<(SharedParcel, Datagrams), HubNo>
         ensures err { OnErr result (self.new ≡ self.old) }
         ensures place { SamePlace self.old self.new }
         ensures count { self.new.dropped ≡ self.old.dropped }

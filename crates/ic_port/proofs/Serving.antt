@@ -64,7 +64,6 @@ its_query query key session motion from to is = let same : key.query ≡ query =
 its_own : {A : Type 0} (n : ℕ) (xs : List A) → cond (n == n) xs [] ≡ xs
 its_own n xs = ap (λ b. cond b xs []) ((Decides-eqb n n).1 refl)
 
-
 pub put_same : (query session motion : ℕ) (from to : ℤ) (key : ConnKey) (chunk : List ℕ) (reply : HubReply) → key ≡ key_of session query motion from to
     → put_logs (ask.Put motion to chunk) key reply ≡ logs_by query (Put key chunk) reply
 put_same query session motion from to key chunk reply is =

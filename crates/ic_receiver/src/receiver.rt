@@ -14,9 +14,9 @@ use crate::hearing::{hand_over, hear};
 use crate::shared_parcel::SharedParcel;
 use crate::take_no::TakeNo;
 use ic_base::{ConnEnd, Datagram, SegId, Settings};
+use ic_chunk::count_more;
 use ic_header::{Flags, answer_packet};
 use ic_recvring::RecvRing;
-use ic_chunk::count_more;
 use std::alloc::{AllocError, Global};
 use std::marker::Model;
 

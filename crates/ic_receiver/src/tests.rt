@@ -85,7 +85,10 @@ fn a_packet_is_taken_for_two_owners(rt: HostRuntime) -> Result<(), Fail> {
         return Err("no parcel".into());
     };
     let (own, kept) = parcel.split();
-    assert_eq!(rt; (own.payload.as_slice(), kept.payload.len()), (b"row".as_slice(), 3));
+    assert_eq!(rt;
+        (own.payload.as_slice(), kept.payload.len()),
+        (b"row".as_slice(), 3)
+    );
     Ok(())
 }
 

@@ -8,12 +8,12 @@ use Rattle.ic_port.proofs.node.Node.begin.Goals as goal
 
 refused : (c : goal.After-drop-ends-in_err-answer) → Notes (the_view c.self.inside) c.begin-answer.new.self c.note.new.entries.items (Begin c.args.query c.args.ends.items) (begun_of c.begin-answer.result)
 refused c =
-    begin_notes (the_view c.self.inside) c.begin-answer.new.self c.note.new.entries.items c.reserve.new.self.items c.args.query c.from_vec.result c.as_slice-2.result.now c.args.ends.items c.begin-answer.result c.begun.result 
+    begin_notes (the_view c.self.inside) c.begin-answer.new.self c.note.new.entries.items c.reserve.new.self.items c.args.query c.from_vec.result c.as_slice-2.result.now c.args.ends.items c.begin-answer.result c.begun.result
     c.begin-answer.ensures.place c.begin-answer.ensures.err c.begin-answer.ensures.stands c.as_slice-2.ensures.value (c.from_vec.ensures ∙ c.in-Ok.ensures.items ∙ c.as_slice.ensures.value) c.reserve.ensures.items c.begun.ensures c.note.ensures
 
 begins : (c : goal.After-drop-self-inside) → Notes (the_view c.self.inside) c.begin-answer.new.self c.note.new.entries.items (Begin c.args.query c.args.ends.items) (begun_of c.begin-answer.result)
 begins c =
-    begin_notes (the_view c.self.inside) c.begin-answer.new.self c.note.new.entries.items c.reserve.new.self.items c.args.query c.from_vec.result c.as_slice-2.result.now c.args.ends.items c.begin-answer.result c.begun.result 
+    begin_notes (the_view c.self.inside) c.begin-answer.new.self c.note.new.entries.items c.reserve.new.self.items c.args.query c.from_vec.result c.as_slice-2.result.now c.args.ends.items c.begin-answer.result c.begun.result
     c.begin-answer.ensures.place c.begin-answer.ensures.err c.begin-answer.ensures.stands c.as_slice-2.ensures.value (c.from_vec.ensures ∙ c.in-Ok.ensures.items ∙ c.as_slice.ensures.value) c.reserve.ensures.items c.begun.ensures c.note.ensures
 
 pub invariant_of-self-in_err-answer : goal.invariant_of-self-in_err-answer
