@@ -101,9 +101,13 @@ TakesOn s t a b = (g : Gather) → a.query ≡ g.query → a.ends ≡ ends_at g 
 
 -- ---- the network
 
+-- what is kept was kept before, or is one of these datagrams
+abbrev pub KeepsOrSent : List Datagram → Net → Net → Type 0
+KeepsOrSent ds a b = (d : Datagram) → Contains b.kept d → Contains a.kept d ⊎ Contains ds d
+
 -- what is kept was kept before, or was emitted with these entries
 abbrev pub KeepsOrEmitted : List Entry → Net → Net → Type 0
-KeepsOrEmitted entries a b = (d : Datagram) → Contains b.kept d → Contains a.kept d ⊎ Contains (emitted_of entries) d
+KeepsOrEmitted entries = KeepsOrSent (emitted_of entries)
 
 -- ---- all stations
 

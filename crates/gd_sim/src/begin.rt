@@ -10,9 +10,9 @@ use crate::fault::SimNo;
 use crate::sim::Sim;
 use crate::station::{Station, Worker};
 use gd_net::Network;
-use ic_port::Node;
 use gd_work::{Gatherer, Scanner};
 use ic_base::{ConnEnd, ConnKey, Drops, SegId, Settings};
+use ic_port::Node;
 use std::alloc::{AllocError, Global};
 
 /// The number of the one motion of a gather.

@@ -10,8 +10,8 @@ ghost use Rattle.gd_sim.specs.Plans as spec;
 use crate::feed::Feed;
 use crate::run::{FirstRun, run_feeds};
 use ic_base::{Drops, Settings, Text};
-use pl_plan::{Node, Placing, Schema, SoundPlan};
 use pl_ops::Loaded;
+use pl_plan::{Node, Placing, Schema, SoundPlan};
 use std::alloc::{AllocError, Global};
 use std::marker::Model;
 

@@ -1,14 +1,14 @@
 // All nodes and the network between them, one call of a node at a time.
-ghost use Rattle.std.specs.Prelude.{◌≡◌, ◌<◌, [], ◌∷◌, length, drop, slice_index_or, Err, IfErr};
+ghost use Rattle.std.specs.Prelude.{◌≡◌, ◌<◌, [], length, drop, slice_index_or, Err, IfErr};
 ghost use Rattle.pl_ops.specs.Placed.{rows_at};
 ghost use Rattle.gd_sim.specs.Playing.{nodes_of};
-ghost use Rattle.gd_sim.specs.Stations.{KeepsOrEmitted, CanPlay, PlayGoes, AllGoes, HasFault, IsLawfulAt};
+ghost use Rattle.gd_sim.specs.Stations.{KeepsOrSent, KeepsOrEmitted, CanPlay, PlayGoes, AllGoes, HasFault, IsLawfulAt};
 
 use crate::fault::SimNo;
 use crate::station::Station;
 use gd_net::{Network, Received};
 use gd_work::Turned;
-use ic_law::Entry;
+use ic_base::Datagram;
 use pl_ops::Loaded;
 use std::alloc::{AllocError, Global};
 
@@ -19,22 +19,12 @@ pub(crate) struct Sim {
     pub network: Network,
 }
 
-/// Sends what was emitted with an entry.
-fn send_one(network: &mut Network, entry: &Entry) -> Result<(), AllocError>
-    ensures { KeepsOrEmitted (entry.now ∷ []) network.old network.new }
+/// Sends these datagrams, and shares their bytes.
+fn send(network: &mut Network, datagrams: &[Datagram]) -> Result<(), AllocError>
+    ensures { KeepsOrSent datagrams.now network.old network.new }
 {
-    for datagram in entry.reply.datagrams() {
+    for datagram in datagrams {
         network.send(datagram.share()?)?;
-    }
-    Ok(())
-}
-
-/// Sends what was emitted with these entries.
-fn send(network: &mut Network, entries: &[Entry]) -> Result<(), AllocError>
-    ensures { KeepsOrEmitted entries.now network.old network.new }
-{
-    for entry in entries {
-        send_one(network, entry)?;
     }
     Ok(())
 }
@@ -51,7 +41,7 @@ fn moved(turned: Result<Turned, SimNo>) -> Result<bool, SimNo>
 }
 
 impl Sim {
-    /// Sends what the station at this place emitted with its entries behind so many.
+    /// Sends what the station at this place emitted with its entry behind so many.
     fn send_behind(&mut self, place: usize, seen: usize) -> Result<(), AllocError>
         requires here { place < length self.old.stations.items }
         ensures stations { self.new.stations ≡ self.old.stations }
@@ -60,10 +50,7 @@ impl Sim {
     {
         let node = &self.stations[place].node;
         node.lawful();
-        let Some(entries) = node.entries().get(seen..) else {
-            return Ok(());
-        };
-        send(&mut self.network, entries)
+        send(&mut self.network, node.emitted(seen))
     }
 
     /// One turn of the worker at this place, which is handed its segment's rows of the table. Tells whether it moved.

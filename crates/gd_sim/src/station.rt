@@ -9,9 +9,9 @@ ghost use Rattle.gd_sim.specs.Playing.{IsDone};
 ghost use Rattle.gd_sim.specs.Stations.{CanTurn, TurnKeeps, Keeps, Acts, SendsOn, TakesOn, Hears, EndsSo};
 
 use crate::fault::{SimNo, tick_fault, work_fault};
-use ic_port::Node;
 use gd_work::{Course, Gatherer, Scanner, Turned};
 use ic_base::Datagram;
+use ic_port::Node;
 use ic_row::Row;
 use std::alloc::{AllocError, Global};
 

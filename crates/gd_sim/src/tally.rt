@@ -13,9 +13,9 @@ ghost use Rattle.ic_chunk.specs.Counts.{HaveEnded};
 ghost use Rattle.gd_sim.specs.Tallying.{IsTallyOf, AreTallies};
 
 use ic_base::{ConnKey, Datagram, Parcel, SegId};
+use ic_chunk::rows_ended;
 use ic_header::{Flags, Header, read};
 use ic_law::{Entry, Histories, HubAsk, HubReply};
-use ic_chunk::rows_ended;
 use std::alloc::{AllocError, Global};
 use std::marker::Model;
 

@@ -51,6 +51,24 @@ impl ConnTable {
         })
     }
 
+    /// Whether a query may begin, and if not, why: `Old` and `Twice` are the caller's doing. One look-up by hash. Takes
+    /// no memory.
+    pub fn may_begin(&self, query: u32) -> Result<(), BeginNo>
+        ensures ok { OnOk result (MayBegin self.now query) }
+        ensures old { (top : ℕ) → (result ≡ Err (Old top)) ↔ IsOld self.now query top }
+        ensures twice { (result ≡ Err Twice) ↔ ((is_past self.now.top query ≡ false) × IsLive self.now query) }
+    {
+        if let Some(top) = self.top
+            && query <= top
+        {
+            return Err(BeginNo::Old(top));
+        }
+        if self.live.get(query).is_some() {
+            return Err(BeginNo::Twice);
+        }
+        Ok(())
+    }
+
     /// Begins a query with these connections, which get the positions from 0. They must be distinct. Keys of another
     /// session or query are never found. Copies and hashes each key once. `Old` and `Twice` are the caller's doing.
     pub fn begin(&mut self, alloc: Global, query: u32, keys: &[ConnKey]) -> Result<(), BeginNo>
@@ -60,13 +78,8 @@ impl ConnTable {
         ensures twice { (result ≡ Err Twice) ↔ ((is_past self.old.top query ≡ false) × IsLive self.old query) }
         ensures err { OnErr result (self.new ≡ self.old) }
     {
-        if let Some(top) = self.top
-            && query <= top
-        {
-            return Err(BeginNo::Old(top));
-        }
-        if self.live.get(query).is_some() {
-            return Err(BeginNo::Twice);
+        if let Err(no) = self.may_begin(query) {
+            return Err(no);
         }
         let Ok(kept) = Keys::new(alloc, keys) else {
             return Err(BeginNo::Memory);

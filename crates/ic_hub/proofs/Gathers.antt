@@ -1,16 +1,11 @@
--- Asks that tests make: one end that sends, two that receive, and the chunk of a row.
-use Rattle.std.proofs.Common.{◌≡◌, ◌≢◌, ◌≤◌, ℕ, List, [], ◌∷◌, ◌++◌, false, Some, refl, ap, sym, ◌∙◌, arith, position, ◌==◌, ℤ, pos, negsuc, int_eq, true≢false}
+-- The ends that tests begin a query with: one or two that send, two that receive.
+use Rattle.std.proofs.Common.{◌≡◌, ◌≢◌, ℕ, List, [], ◌∷◌, ◌++◌, false, ap, sym, ◌∙◌, ℤ, pos, negsuc, int_eq, true≢false}
 use Rattle.std.specs.List.{Contains}
-use Rattle.std.proofs.lemmas.Bool.Decides.{Decides-eqb, Decides-int_eq}
+use Rattle.std.proofs.lemmas.Bool.Decides.{Decides-int_eq}
 use Rattle.ic_base.specs.declared.keys.ConnEnd.{ConnEnd}
-use Rattle.ic_chunk.specs.declared.chunk.ChunkKind.TheVariants.{Whole, EndOfStream}
-use Rattle.ic_chunk.specs.Chunks.{chunk_of, spelled}
 use Rattle.ic_law.specs.Points.{Place}
-use Rattle.ic_law.specs.Asking.{IsEndHere, AreEnds, IsPuttable}
-use Rattle.ic_hub.specs.Hubbing.{Hubbing, Living}
-use Rattle.ic_hub.specs.Calls.{IsLiveIn}
+use Rattle.ic_law.specs.Asking.{IsEndHere, AreEnds}
 use Rattle.ic_hub.proofs.Places.{all_at, contains_at}
-use Rattle.ic_hub.proofs.Found.{position_some}
 
 -- ---- ends
 
@@ -81,25 +76,3 @@ pub segment_end : (place : Place) (query : ℕ) (at : ℤ) (a : ConnEnd) → IsE
 segment_end place query at a here other from to =
     let apart : a.key.from ≢ a.key.to = λ same. true≢false (sym ((Decides-int_eq at (negsuc 0)).1 (sym from ∙ same ∙ to)) ∙ other) in
     one_end place query a here apart
-
--- ---- chunks
-
--- a row with one whole number of one byte
-pub row_puttable : (place : Place) (row : ℕ) → 128 ≤ place.settings.packet → IsPuttable place (0 ∷ 11 ∷ 0 ∷ 0 ∷ 0 ∷ 1 ∷ 1 ∷ 0 ∷ 0 ∷ 0 ∷ 0 ∷ 0 ∷ 0 ∷ 0 ∷ row ∷ [])
-unfolding spelled
-row_puttable place row least =
-    record {
-      chunk = chunk_of Whole (0 ∷ 1 ∷ 1 ∷ 0 ∷ 0 ∷ 0 ∷ 0 ∷ 0 ∷ 0 ∷ 0 ∷ row ∷ []);
-      allowed = record { small = omega arith; allowed = refl };
-      goes_on = λ same. let bad : Whole ≡ EndOfStream = same in cc;
-      are = refl;
-      room = omega (arith, least);
-    }
-
--- ---- queries
-
--- a query that has a place is live
-pub live_in : (s : Hubbing) (query at : ℕ) → position (λ (l : Living). l.number == query) s.live ≡ Some at → IsLiveIn s query
-live_in s query at first =
-    let p = position_some (λ (l : Living). l.number == query) s.live at first in
-    record { at = at; living = p.0; here = p.1; number = (Decides-eqb p.0.number query).0 p.2 }

@@ -1,7 +1,7 @@
 -- Whether a live query could be left, and a hub that is asked so, or left by one.
 use Rattle.std.proofs.Common.{◌≡◌, ◌≢◌, ◌<◌, ◌+◌, ◌↔◌, ℕ, zero, suc, List, [], ◌∷◌, ◌++◌, length, map, take, drop, Bool, true, false, cond, ◌==◌, position}
 use Rattle.std.proofs.Common.{Option, Some, None, Result, Ok, Err, refl, ap, sym, ◌∙◌, subst, inl, inr, ◌⊎◌, slice_get, get_or, arith}
-use Rattle.std.specs.Prelude.{IsTrue, IsSome, OnOk, OnErr}
+use Rattle.std.specs.Prelude.{IsTrue, IsSome, OnOk, OnErr, is_some}
 use Rattle.std.specs.List.{Contains, AllByRecursion}
 use Rattle.std.proofs.lemmas.Bool.{ne_eqb}
 use Rattle.std.proofs.lemmas.Bool.Decides.{Decides-eqb}
@@ -224,6 +224,20 @@ not_found s h query stands none live =
 
 pub no_place : (s : Hubbing) (query : ℕ) → IsLiveIn s query → position (λ (x : Living). x.number == query) s.live ≡ None → ⊥
 no_place s query live none = position_none (λ (x : Living). x.number == query) s.live none live.at live.living live.here ((Decides-eqb live.living.number query).1 live.number)
+
+-- a query that has a place is live
+live_in : (s : Hubbing) (query at : ℕ) → position (λ (l : Living). l.number == query) s.live ≡ Some at → IsLiveIn s query
+live_in s query at first =
+    let p = position_some (λ (l : Living). l.number == query) s.live at first in
+    record { at = at; living = p.0; here = p.1; number = (Decides-eqb p.0.number query).0 p.2 }
+
+-- a query is live if it has a place, and only then
+pub live_found : (s : Hubbing) (query : ℕ) (found : Option ℕ) (b : Bool) → found ≡ position (λ (x : Living). x.number == query) s.live → b ≡ is_some found → (IsTrue b → IsLiveIn s query) × (IsLiveIn s query → IsTrue b)
+live_found s query None b is test = (
+  (λ yes. absurd (let bad : false ≡ true = sym test ∙ yes in cc)),
+  (λ live. absurd (no_place s query live (sym is))),
+)
+live_found s query (Some at) b is test = ((λ yes. live_in s query at (sym is)), (λ live. test))
 
 -- the query at this place is live, with its ends
 pub live_there : (s : Hubbing) (h : List Entry) (query q : ℕ) (l : Living) → Stands s h → slice_get s.live q ≡ Some l → l.number ≡ query → IsLive query l.ends h

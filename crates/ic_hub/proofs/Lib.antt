@@ -22,3 +22,4 @@ pub mod TickingStands
 pub mod TickingRefused
 pub mod Gathers
 pub mod Counted
+pub mod Noting

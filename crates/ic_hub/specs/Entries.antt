@@ -56,6 +56,11 @@ ticked_of (Ok ds) = Ticked (Ok ds)
 ticked_of (Err (tick.Spent key seq tries)) = Ticked (Err (tick.Spent key seq tries))
 ticked_of (Err tick.Memory) = Memory
 
+-- what the slice is given by a take
+abbrev pub own_of : Result (Parcel × List Datagram) HubNo → Result Parcel HubNo
+own_of (Ok r) = Ok r.0
+own_of (Err refusal) = Err refusal
+
 -- ---- entries
 
 abbrev pub begin_entry : ℕ → List ConnEnd → Result (Unit {0}) BeginNo → Entry

@@ -10,3 +10,5 @@ pub mod Taking
 pub mod Beginning
 pub mod Coming
 pub mod Counting
+pub mod Noting
+pub mod Putting

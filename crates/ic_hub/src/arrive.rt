@@ -15,12 +15,12 @@ use crate::hub::Hub;
 use crate::query::Query;
 use crate::take::listed;
 use ic_base::{ConnKey, Datagram, Datagrams, SegId};
+use ic_conntab::Sides;
 use ic_header::{Flags, Header, read, turned_packet};
 use ic_law::{Arrived, DropCause};
-use ic_timed_sender::TimedSender;
-use ic_conntab::Sides;
 use ic_receiver::Receiver;
 use ic_sender::SendNo;
+use ic_timed_sender::TimedSender;
 use std::alloc::{AllocError, Global};
 
 /// Whether a packet goes from the sending end to the receiving one.
@@ -288,8 +288,10 @@ impl Hub {
     }
 
     /// The network hands a datagram over. Gives what became of it and the datagrams that are emitted. Costs reading the
-    /// header, one look-up and what the connection does; takes memory for the answer alone. A dropped datagram raises one
-    /// count and changes nothing else.
+    /// header, one look-up and what the connection does; takes memory for the answer, and for the packets that first go
+    /// out with it. The payload of a packet of rows is copied once, into the receiver's ring; an answer copies each packet
+    /// that first goes out with it once, and none that goes out again. A dropped datagram raises one count and changes
+    /// nothing else.
     pub fn arrive(
         &mut self,
         alloc: Global,

@@ -14,9 +14,9 @@ ghost use Rattle.ic_hub.specs.Beginning.{IsBetween, SendsFirst, ReceivesFirst, s
 use crate::hub::Hub;
 use crate::query::Query;
 use ic_base::{BeginNo, ConnEnd, SegId, Settings};
-use ic_timed_sender::TimedSender;
 use ic_conntab::Places;
 use ic_receiver::Receiver;
+use ic_timed_sender::TimedSender;
 use std::alloc::{AllocError, Global};
 
 /// Does nothing. Its clause: an end is of segments.
@@ -164,10 +164,8 @@ impl Query {
 }
 
 impl Hub {
-    /// Begins a query with the ends that it has here: each of this session and query, no two of one key and one side, and
-    /// a connection of the segment to itself with both sides. Takes the room for all their packets, and touches none of
-    /// it. Looks each end up once; nothing changes where it is refused.
-    pub fn begin(&mut self, alloc: Global, query: u32, ends: &[ConnEnd]) -> Result<(), BeginNo>
+    /// A query that may begin, if there is memory.
+    fn begin_now(&mut self, alloc: Global, query: u32, ends: &[ConnEnd]) -> Result<(), BeginNo>
         requires ends { AreEnds (place_in self.old) query ends.now }
         ensures err { OnErr result (self.new ≡ self.old) }
         ensures place { SamePlace self.old self.new }
@@ -184,5 +182,22 @@ impl Hub {
         let place = place_for(self.live.as_slice(), query);
         insert(&mut self.live, place, begun);
         Ok(())
+    }
+
+    /// Begins a query with the ends that it has here: each of this session and query, no two of one key and one side, and
+    /// a connection of the segment to itself with both sides. A query that has begun or ended is refused before any room
+    /// is taken. Takes the room for all packets of the ends, and touches none of it. Looks each end up once; nothing
+    /// changes if it is refused.
+    pub fn begin(&mut self, alloc: Global, query: u32, ends: &[ConnEnd]) -> Result<(), BeginNo>
+        requires ends { AreEnds (place_in self.old) query ends.now }
+        ensures err { OnErr result (self.new ≡ self.old) }
+        ensures place { SamePlace self.old self.new }
+        ensures count { self.new.dropped ≡ self.old.dropped }
+        ensures stands { (h : List Entry) → Stands self.old h → Stands self.new (h ++ begin_entry query ends.now result ∷ []) }
+    {
+        if let Err(no) = self.table.may_begin(query) {
+            return Err(no);
+        }
+        self.begin_now(alloc, query, ends)
     }
 }

@@ -10,8 +10,8 @@ use crate::counts::Counts;
 use crate::hub::Hub;
 use crate::query::Query;
 use ic_base::ConnKey;
-use ic_timed_sender::TimedSender;
 use ic_receiver::Receiver;
+use ic_timed_sender::TimedSender;
 
 /// What a sender counts.
 fn of_sender(sender: &TimedSender) -> Counts

@@ -1,12 +1,12 @@
 // Where a connection stands.
-ghost use Rattle.std.specs.Prelude.{◌≡◌, None, Some, ◌==◌, position};
+ghost use Rattle.std.specs.Prelude.{◌≡◌, ◌↔◌, None, Some, ◌==◌, position, IsTrue};
 ghost use Rattle.ic_hub.specs.Hubbing.{Living};
+ghost use Rattle.ic_hub.specs.Calls.{IsLiveIn};
 ghost use Rattle.ic_hub.specs.Finding.{IsFound, FindsSender, FindsReceiver};
 
 use crate::hub::Hub;
 use ic_base::ConnKey;
-use ic_conntab::Find;
-use ic_conntab::Sides;
+use ic_conntab::{Find, Sides};
 
 /// What a hub says of a connection.
 #[derive(Clone, Copy)]
@@ -27,6 +27,13 @@ impl Hub {
         ensures { result ≡ position (λ (l : Living). l.number == query) self.now.live }
     {
         self.live.iter().position(|live| live.number == query)
+    }
+
+    /// Whether the query is live. Looks at the numbers of the live queries, which are few.
+    pub fn is_live(&self, query: u32) -> bool
+        ensures { IsTrue result ↔ IsLiveIn self.now query }
+    {
+        self.place_of(query).is_some()
     }
 
     /// One look-up by hash, and one at the numbers of the live queries.

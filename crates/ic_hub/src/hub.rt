@@ -83,4 +83,23 @@ impl Hub {
     {
         self.dropped
     }
+
+    pub fn session(&self) -> u32
+        ensures { result ≡ self.now.session }
+    {
+        self.session
+    }
+
+    /// Its segment.
+    pub fn at(&self) -> SegId
+        ensures { result ≡ self.now.at }
+    {
+        self.at
+    }
+
+    pub fn settings(&self) -> Settings
+        ensures { result ≡ self.now.settings }
+    {
+        self.settings
+    }
 }

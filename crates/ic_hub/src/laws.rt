@@ -1,5 +1,5 @@
 // Laws of hubs, each carried by a function that has nothing to run.
-ghost use Rattle.ic_hub.specs.Laws.{KeepsLaw, StaysArmed, LiveTells};
+ghost use Rattle.ic_hub.specs.Laws.{KeepsLaw, StaysArmed, LiveTells, EndsTell};
 
 /// Each history for which a hub stands keeps the law of hubs and the law of emission.
 pub fn keeps_law()
@@ -15,4 +15,9 @@ pub fn stays_armed()
 /// A query is live in a hub exactly where it is in the history.
 pub fn live_tells()
     ensures { LiveTells }
+{}
+
+/// A query is live with these ends in a hub exactly where it is in the history.
+pub fn ends_tell()
+    ensures { EndsTell }
 {}

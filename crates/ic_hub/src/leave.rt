@@ -10,8 +10,8 @@ ghost use Rattle.ic_hub.specs.Calls.{SamePlace, IsLiveIn};
 use crate::hub::Hub;
 use crate::query::Query;
 use ic_base::ConnKey;
-use ic_law::{LeaveNo, Unclear};
 use ic_conntab::Slot;
+use ic_law::{LeaveNo, Unclear};
 
 impl Query {
     /// Whether the connection of an end is over.

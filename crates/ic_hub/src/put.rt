@@ -9,6 +9,7 @@ ghost use Rattle.ic_hub.specs.Standing.{Stands};
 ghost use Rattle.ic_hub.specs.Calls.{SamePlace, FitsAll, PutsOn};
 
 use crate::hub::Hub;
+use crate::puttable::is_puttable;
 use crate::query::Query;
 use crate::refusals::put_answer;
 use ic_base::{ConnKey, Datagrams};
@@ -42,10 +43,8 @@ impl Query {
 }
 
 impl Hub {
-    /// The slice puts a tuple chunk on a connection that it sends on. Gives the packets that are emitted: the chunk is
-    /// copied into the packet that is being filled, and a packet that is sealed is copied into its datagram once. A chunk
-    /// behind the end of stream is answered `Memory`.
-    pub fn put(&mut self, alloc: Global, key: &ConnKey, chunk: &[u8]) -> Result<Datagrams, HubNo>
+    /// A chunk that can be put.
+    fn put_chunk(&mut self, alloc: Global, key: &ConnKey, chunk: &[u8]) -> Result<Datagrams, HubNo>
         requires chunk { IsPuttable (place_in self.old) chunk.now }
         ensures err { OnErr result (self.new ≡ self.old) }
         ensures place { SamePlace self.old self.new }
@@ -61,7 +60,24 @@ impl Hub {
         self.live[query].put(alloc, place, chunk)
     }
 
-    /// The slice puts the end of stream. Gives the packets that are emitted. A second end is answered `Memory`.
+    /// The slice puts a tuple chunk on a connection that it sends on. Gives the packets that are emitted: the chunk is
+    /// copied into the packet that is being filled; a packet is copied once when it is sealed, and once into its datagram
+    /// when it first goes out. What is no tuple chunk, or longer than a packet has room for, and a chunk after the end of
+    /// stream are answered `Memory`: [`is_puttable`](crate::is_puttable) tells the first two.
+    pub fn put(&mut self, alloc: Global, key: &ConnKey, chunk: &[u8]) -> Result<Datagrams, HubNo>
+        ensures err { OnErr result (self.new ≡ self.old) }
+        ensures place { SamePlace self.old self.new }
+        ensures count { self.new.dropped ≡ self.old.dropped }
+        ensures stands { (h : List Entry) → Stands self.old h → Stands self.new (h ++ put_entry key.now chunk.now result ∷ []) }
+    {
+        if !is_puttable(&self.settings, chunk) {
+            return Err(HubNo::Memory);
+        }
+        self.put_chunk(alloc, key, chunk)
+    }
+
+    /// The slice puts the end of stream. Gives the packets that are emitted: the last one is copied once when it is
+    /// sealed, and each that first goes out once into its datagram. A second end is answered `Memory`.
     pub fn finish(&mut self, alloc: Global, key: &ConnKey) -> Result<Datagrams, HubNo>
         ensures err { OnErr result (self.new ≡ self.old) }
         ensures place { SamePlace self.old self.new }

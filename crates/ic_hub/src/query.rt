@@ -1,8 +1,8 @@
 // The connections of one live query.
 use ic_base::SegId;
-use ic_timed_sender::TimedSender;
 use ic_conntab::Places;
 use ic_receiver::Receiver;
+use ic_timed_sender::TimedSender;
 use std::marker::Model;
 
 /// The connections that a live query has at this segment.

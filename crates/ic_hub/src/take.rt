@@ -11,9 +11,9 @@ ghost use Rattle.ic_hub.specs.Taking.{Takes, HaltsOne, TakesAt, HaltsAt, rank_of
 use crate::hub::Hub;
 use crate::query::Query;
 use crate::refusals::take_no;
-use ic_base::{ConnKey, Datagram, Datagrams, Parcel, SegId};
+use ic_base::{ConnKey, Datagram, Datagrams, SegId};
 use ic_law::HubNo;
-use ic_receiver::Receiver;
+use ic_receiver::{Receiver, SharedParcel};
 use std::alloc::Global;
 
 /// A receiver that is ready, by its place, with its rank in cyclic order.
@@ -106,7 +106,7 @@ pub(crate) fn listed_or_none(room: Vec<Datagram>, datagram: Option<Datagram>) ->
 
 /// The next parcel of a receiver, with the datagram that tells its sender of the new room. The room for the list of that
 /// one is taken before anything changes.
-fn take_one(alloc: Global, receiver: &mut Receiver) -> Result<(Parcel, Datagrams), HubNo>
+fn take_one(alloc: Global, receiver: &mut Receiver) -> Result<(SharedParcel, Datagrams), HubNo>
     ensures { Takes receiver.old receiver.new result }
 {
     let Ok(room) = Vec::with_capacity(alloc, 1) else {
@@ -133,7 +133,7 @@ fn halt_one(alloc: Global, receiver: &mut Receiver) -> Result<Datagrams, HubNo>
 
 impl Query {
     /// A take of the receiver at this place.
-    fn take(&mut self, alloc: Global, place: usize) -> Result<(Parcel, Datagrams), HubNo>
+    fn take(&mut self, alloc: Global, place: usize) -> Result<(SharedParcel, Datagrams), HubNo>
         requires here { place < length self.old.receivers }
         ensures { TakesAt place self.old self.new result }
     {
@@ -141,7 +141,7 @@ impl Query {
     }
 
     /// A take of any sender of the motion at this place. What it takes is noted as served last.
-    fn take_any(&mut self, alloc: Global, motion: usize) -> Result<(Parcel, Datagrams), HubNo>
+    fn take_any(&mut self, alloc: Global, motion: usize) -> Result<(SharedParcel, Datagrams), HubNo>
         requires here { motion < length (motions_of self.old.ends) }
         ensures { (number : ℕ) → slice_get (motions_of self.old.ends) motion ≡ Some number → TakesAny motion number self.old self.new result }
     {
@@ -150,7 +150,7 @@ impl Query {
             return Err(refusal(self.receivers.as_slice(), places));
         };
         let (parcel, told) = take_one(alloc, &mut self.receivers[place])?;
-        self.served[motion] = Some(parcel.from);
+        self.served[motion] = Some(parcel.parcel().from);
         Ok((parcel, told))
     }
 
@@ -165,14 +165,14 @@ impl Query {
 
 impl Hub {
     /// The slice takes the next parcel of any sender of a motion: of the first that is ready, in cyclic order behind the
-    /// one served last, at first from the least. Gives it with the answer that tells its sender of the new room. Looks at
-    /// each sender of the motion; copies the payload once.
+    /// one served last, at first from the least. Gives it, for two owners, with the answer that tells its sender of the
+    /// new room. Looks at each sender of the motion; copies the payload once, out of the ring.
     pub fn take(
         &mut self,
         alloc: Global,
         query: u32,
         motion: u32,
-    ) -> Result<(Parcel, Datagrams), HubNo>
+    ) -> Result<(SharedParcel, Datagrams), HubNo>
         ensures err { OnErr result (self.new ≡ self.old) }
         ensures place { SamePlace self.old self.new }
         ensures count { self.new.dropped ≡ self.old.dropped }
@@ -187,8 +187,12 @@ impl Hub {
         self.live[place].take_any(alloc, at)
     }
 
-    /// The slice takes the next parcel of one sender.
-    pub fn take_from(&mut self, alloc: Global, key: &ConnKey) -> Result<(Parcel, Datagrams), HubNo>
+    /// The slice takes the next parcel of one sender, for two owners. Copies the payload once, out of the ring.
+    pub fn take_from(
+        &mut self,
+        alloc: Global,
+        key: &ConnKey,
+    ) -> Result<(SharedParcel, Datagrams), HubNo>
         ensures err { OnErr result (self.new ≡ self.old) }
         ensures place { SamePlace self.old self.new }
         ensures count { self.new.dropped ≡ self.old.dropped }

@@ -13,8 +13,8 @@ use crate::hub::Hub;
 use crate::query::Query;
 use ic_base::Datagrams;
 use ic_law::TickNo;
-use ic_timed_sender::{Numbers, TimedSender};
 use ic_sender::SendNo;
+use ic_timed_sender::{Numbers, TimedSender};
 use std::alloc::{AllocError, Global};
 
 /// The last tick, at which the clock stands still.

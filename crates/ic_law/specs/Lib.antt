@@ -23,3 +23,4 @@ pub mod Hub
 pub mod Streams
 pub mod Logs
 pub mod LogLaws
+pub mod Parting

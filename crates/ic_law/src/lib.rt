@@ -14,6 +14,7 @@
 mod history;
 mod laws;
 mod log_laws;
+mod parting;
 
 pub use history::{
     Arrived, DropCause, Entry, Histories, History, HubAsk, HubNo, HubReply, LeaveNo, TickNo,

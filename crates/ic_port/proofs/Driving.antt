@@ -23,25 +23,25 @@ use Rattle.ic_law.specs.Logs.{log_of, IsUpto}
 use Rattle.ic_law.proofs.LogLemmas.{none_yet}
 use Rattle.ic_port.specs.Noding.{Noding, place_of, IsNode}
 use Rattle.ic_port.specs.Calls.{Adds, Begins, Ticks, Stays}
-use Rattle.ic_port.specs.Telling.{kept, entry_with, noted, told_tick}
-use Rattle.ic_port.proofs.Noting.{all_append, begun_memory}
+use Rattle.ic_port.specs.Telling.{told_tick}
+use Rattle.ic_hub.specs.Noting.{noted}
+use Rattle.ic_hub.proofs.Noting.{all_append, begun_memory}
 use Rattle.ic_port.proofs.Keeping.{Notes, after, notes_keep_with, no_ends}
 use Rattle.ic_port.proofs.Serving.{called_notes}
 
 -- the entry stands there, and all else is as it was
 pub adds_of : (n : Noding) (hub : Hubbing) (entries : List Entry) (ask : HubAsk) (reply : HubReply) (e : Entry) → Notes n hub entries ask reply → noted ask reply ≡ e ∷ [] → Adds e n (after n hub n.query n.ends entries)
-adds_of n hub entries ask reply e notes one = record { place = notes.place; query = refl; ends = refl; entries = notes.grown ∙ ap (λ l. n.entries ++ l) one; broken = refl }
+adds_of n hub entries ask reply e notes one = record { place = notes.place; query = refl; ends = refl; entries = notes.grown ∙ ap (λ l. n.entries ++ l) one }
 
 -- ---- a query that begins
 
-pub begin_notes : (n : Noding) (hub : Hubbing) (entries reserved : List Entry) (query : ℕ) (given seen ends : List ConnEnd) (answer : Result (Unit {0}) BeginNo) (told : Option HubReply)
-    → n.broken ≡ false → SamePlace n.hub hub → OnErr answer (hub ≡ n.hub) → ((h : List Entry) → Stands n.hub h → Stands hub (h ++ begin_entry query seen answer ∷ []))
-    → seen ≡ ends → given ≡ ends → reserved ≡ n.entries → told ≡ kept (begun_of answer) → entries ≡ reserved ++ entry_with (Begin query given) told
+pub begin_notes : (n : Noding) (hub : Hubbing) (entries reserved : List Entry) (query : ℕ) (given seen ends : List ConnEnd) (answer : Result (Unit {0}) BeginNo) (told : HubReply)
+    → SamePlace n.hub hub → OnErr answer (hub ≡ n.hub) → ((h : List Entry) → Stands n.hub h → Stands hub (h ++ begin_entry query seen answer ∷ []))
+    → seen ≡ ends → given ≡ ends → reserved ≡ n.entries → told ≡ begun_of answer → entries ≡ reserved ++ noted (Begin query given) told
     → Notes n hub entries (Begin query ends) (begun_of answer)
-begin_notes n hub entries reserved query given seen ends answer told unbroken place err stands seen_is given_is reserved_is told_is entries_are =
+begin_notes n hub entries reserved query given seen ends answer told place err stands seen_is given_is reserved_is told_is entries_are =
     called_notes n hub entries reserved (Begin query given) (Begin query ends) (begun_of answer) told
     (record {
-      unbroken = unbroken;
       place = place;
       same = λ memory. begun_memory (hub ≡ n.hub) answer err memory;
       stands = λ h was. subst (λ l. Stands hub (h ++ begin_entry query l answer ∷ [])) seen_is (stands h was);
@@ -57,18 +57,18 @@ pub begun_grown : (n : Noding) (hub : Hubbing) (entries : List Entry) (query : �
     → Notes n hub entries (Begin query ends) (begun_of answer) → entries ≡ n.entries ++ begin_entry query ends (Ok tt) ∷ []
 begun_grown n hub entries query ends answer u is notes = notes.grown ∙ ap (λ r. n.entries ++ noted (Begin query ends) (begun_of r)) is
 
-pub begun_keeps : (session : ℕ) (at : ℤ) (packet : ℕ) (n m : Noding) (hub : Hubbing) (entries : List Entry) (query : ℕ) (ends : List ConnEnd) (answer : Result (Unit {0}) BeginNo) (u : Unit {0})
-    → IsNode session at packet n → n ≡ m → answer ≡ Ok u → Notes n hub entries (Begin query ends) (begun_of answer) → m.query < query → AreEnds (place_of m) query ends
-    → IsNode session at packet (after n hub query ends entries)
-begun_keeps session at packet n m hub entries query ends answer u is view ok notes later are =
+pub begun_keeps : (n m : Noding) (hub : Hubbing) (entries : List Entry) (query : ℕ) (ends : List ConnEnd) (answer : Result (Unit {0}) BeginNo) (u : Unit {0})
+    → IsNode n → n ≡ m → answer ≡ Ok u → Notes n hub entries (Begin query ends) (begun_of answer) → m.query < query → AreEnds (place_of m) query ends
+    → IsNode (after n hub query ends entries)
+begun_keeps n m hub entries query ends answer u is view ok notes later are =
     let e : Entry = begin_entry query ends (Ok tt) in
     let less : n.query < query = subst (λ (x : Noding). x.query < query) (sym view) later in
-    notes_keep_with session at packet n hub entries (Begin query ends) (begun_of answer) is notes query ends (omega (arith, less)) (subst (λ (x : Noding). AreEnds (place_of x) query ends) (sym view) are)
+    notes_keep_with n hub entries (Begin query ends) (begun_of answer) is notes query ends (omega (arith, less)) (subst (λ (x : Noding). AreEnds (place_of x) query ends) (sym view) are)
     (λ ends_there. subst (λ l. IsLive query ends l) (sym (begun_grown n hub entries query ends answer u ok notes)) (live_now query ends n.entries e refl refl))
 
-pub begun_begins : (session : ℕ) (at : ℤ) (packet : ℕ) (n m : Noding) (hub : Hubbing) (entries : List Entry) (query : ℕ) (ends : List ConnEnd) (answer : Result (Unit {0}) BeginNo) (u : Unit {0})
-    → IsNode session at packet n → n ≡ m → answer ≡ Ok u → Notes n hub entries (Begin query ends) (begun_of answer) → m.query < query → Begins query ends m (after n hub query ends entries)
-begun_begins session at packet n m hub entries query ends answer u is view ok notes later =
+pub begun_begins : (n m : Noding) (hub : Hubbing) (entries : List Entry) (query : ℕ) (ends : List ConnEnd) (answer : Result (Unit {0}) BeginNo) (u : Unit {0})
+    → IsNode n → n ≡ m → answer ≡ Ok u → Notes n hub entries (Begin query ends) (begun_of answer) → m.query < query → Begins query ends m (after n hub query ends entries)
+begun_begins n m hub entries query ends answer u is view ok notes later =
     let e : Entry = begin_entry query ends (Ok tt) in
     let grown = begun_grown n hub entries query ends answer u ok notes in
     let less : n.query < query = subst (λ (x : Noding). x.query < query) (sym view) later in
@@ -77,7 +77,6 @@ begun_begins session at packet n m hub entries query ends answer u is view ok no
       query_is = refl;
       ends_are = refl;
       entries = grown;
-      broken = refl;
       log = ap (log_of query) grown ∙ none_yet n.query query (n.entries ++ e ∷ []) (all_append (λ (x : Entry). IsUpto n.query x.ask) n.entries (e ∷ []) is.upto (tt, tt)) less;
     })
 
@@ -115,8 +114,8 @@ leave_stays n m hub entries answer view err notes =
       adds = adds_of n hub entries (Leave n.query) (Left answer) (leave_entry n.query (Err why.0)) notes (ap (λ r. noted (Leave n.query) (Left r)) why.1);
     })
 
-pub left_keeps : (session : ℕ) (at : ℤ) (packet : ℕ) (n : Noding) (hub : Hubbing) (entries : List Entry) (ends : List ConnEnd) (answer : Result (Unit {0}) LeaveNo)
-    → IsNode session at packet n → Notes n hub entries (Leave n.query) (Left answer) → ends ≡ [] → IsNode session at packet (after n hub n.query ends entries)
-left_keeps session at packet n hub entries ends answer is notes none =
-    notes_keep_with session at packet n hub entries (Leave n.query) (Left answer) is notes n.query ends (omega arith)
+pub left_keeps : (n : Noding) (hub : Hubbing) (entries : List Entry) (ends : List ConnEnd) (answer : Result (Unit {0}) LeaveNo)
+    → IsNode n → Notes n hub entries (Leave n.query) (Left answer) → ends ≡ [] → IsNode (after n hub n.query ends entries)
+left_keeps n hub entries ends answer is notes none =
+    notes_keep_with n hub entries (Leave n.query) (Left answer) is notes n.query ends (omega arith)
     (subst (λ l. AreEnds (place_of n) n.query l) (sym none) (no_ends (place_of n) n.query)) (λ there. absurd (there none))

@@ -1,8 +1,7 @@
 -- What a node keeps with each call.
-use Rattle.std.proofs.Common.{◌≡◌, ◌≢◌, ℕ, ◌≤◌, ℤ, List, [], ◌∷◌, ◌++◌, true, false, refl, ap, sym, ◌∙◌, subst, append-nil, arith}
+use Rattle.std.proofs.Common.{◌≡◌, ◌≢◌, ℕ, ◌≤◌, ℤ, List, [], ◌∷◌, ◌++◌, true, false, refl, ap, sym, ◌∙◌, subst, inl, inr, append-nil, arith}
 use Rattle.std.specs.List.{AllByRecursion}
 use Rattle.ic_base.specs.declared.keys.ConnEnd.{ConnEnd}
-use Rattle.ic_base.specs.declared.settings.Settings.{Settings}
 use Rattle.ic_law.specs.declared.history.HubAsk.{HubAsk}
 use Rattle.ic_law.specs.declared.history.HubAsk.TheVariants.{Begin, Put, Finish, Take, TakeFrom, Halt, Arrive, Tick, Clear, Leave}
 use Rattle.ic_law.specs.declared.history.HubReply.{HubReply}
@@ -20,17 +19,9 @@ use Rattle.ic_hub.specs.Standing.{Stands}
 use Rattle.ic_hub.specs.Calls.{SamePlace}
 use Rattle.ic_law.specs.Logs.{IsOf, IsOurs, IsUpto}
 use Rattle.ic_port.specs.Noding.{Noding, place_of, IsLawful, IsNode}
-use Rattle.ic_port.specs.Calls.{Works, begin_in}
-use Rattle.ic_port.specs.Telling.{noted}
-use Rattle.ic_port.proofs.Noting.{all_append, all_map, noted_all, noted_few, noted_came, noted_left, noted_begun, noted_stands, noted_lives}
-
--- ---- places
-
-pub place_same : (a b : Hubbing) → SamePlace a b → place_in b ≡ place_in a
-place_same a b same = ap (λ x. place_at x b.at b.settings) same.session ∙ ap (λ x. place_at a.session x b.settings) same.at ∙ ap (λ x. place_at a.session a.at x) same.settings
-
-pub same_self : (a : Hubbing) → SamePlace a a
-same_self a = record { session = refl; at = refl; settings = refl }
+use Rattle.ic_port.specs.Calls.{Works, begin_in, begins_of}
+use Rattle.ic_hub.specs.Noting.{noted}
+use Rattle.ic_hub.proofs.Noting.{all_append, all_map, noted_all, noted_few, noted_came, noted_left, noted_stands, noted_lives, noted_cases, place_same, same_self}
 
 -- ---- queries
 
@@ -61,7 +52,6 @@ no_ends place query = record {
 -- ---- a call whose entry stands behind the others
 
 pub record Notes (n : Noding) (hub : Hubbing) (entries : List Entry) (ask : HubAsk) (reply : HubReply) : Type 0 where
-  pub unbroken : n.broken ≡ false
   pub place : SamePlace n.hub hub
   pub same : reply ≡ Memory → hub ≡ n.hub
   pub stands : Stands n.hub n.entries → Stands hub (n.entries ++ record { ask = ask; reply = reply } ∷ [])
@@ -70,28 +60,21 @@ pub record Notes (n : Noding) (hub : Hubbing) (entries : List Entry) (ask : HubA
   pub grown : entries ≡ n.entries ++ noted ask reply
 
 abbrev pub after : Noding → Hubbing → ℕ → List ConnEnd → List Entry → Noding
-after n hub query ends entries = record { hub = hub; query = query; ends = ends; entries = entries; broken = n.broken }
+after n hub query ends entries = record { hub = hub; query = query; ends = ends; entries = entries }
 
--- the hub stands for the entries of a node that isn't broken
-pub node_stands : (session : ℕ) (at : ℤ) (packet : ℕ) (n : Noding) → IsNode session at packet n → n.broken ≡ false → Stands n.hub n.entries
-node_stands session at packet n is unbroken = subst (λ s. Stands s n.entries) (is.stood.is unbroken) is.stood.stands
-
-pub notes_stand : (session : ℕ) (at : ℤ) (packet : ℕ) (n : Noding) (hub : Hubbing) (entries : List Entry) (ask : HubAsk) (reply : HubReply)
-    → IsNode session at packet n → Notes n hub entries ask reply → Stands hub entries
-notes_stand session at packet n hub entries ask reply is notes =
-    subst (λ l. Stands hub l) (sym notes.grown) (noted_stands n.hub hub n.entries ask reply notes.same notes.stands (node_stands session at packet n is notes.unbroken))
+pub notes_stand : (n : Noding) (hub : Hubbing) (entries : List Entry) (ask : HubAsk) (reply : HubReply)
+    → IsNode n → Notes n hub entries ask reply → Stands hub entries
+notes_stand n hub entries ask reply is notes =
+    subst (λ l. Stands hub l) (sym notes.grown) (noted_stands n.hub hub n.entries ask reply notes.same notes.stands is.stands)
 
 -- a node with these ends of a query that is no earlier
-pub notes_keep_with : (session : ℕ) (at : ℤ) (packet : ℕ) (n : Noding) (hub : Hubbing) (entries : List Entry) (ask : HubAsk) (reply : HubReply)
-    → IsNode session at packet n → Notes n hub entries ask reply → (query : ℕ) (ends : List ConnEnd) → n.query ≤ query → AreEnds (place_of n) query ends
-    → (ends ≢ [] → IsLive query ends entries) → IsNode session at packet (after n hub query ends entries)
-notes_keep_with session at packet n hub entries ask reply is notes query ends le are live =
+pub notes_keep_with : (n : Noding) (hub : Hubbing) (entries : List Entry) (ask : HubAsk) (reply : HubReply)
+    → IsNode n → Notes n hub entries ask reply → (query : ℕ) (ends : List ConnEnd) → n.query ≤ query → AreEnds (place_of n) query ends
+    → (ends ≢ [] → IsLive query ends entries) → IsNode (after n hub query ends entries)
+notes_keep_with n hub entries ask reply is notes query ends le are live =
     let place = sym (place_same n.hub hub notes.place) in
     record {
-      session_is = notes.place.session ∙ is.session_is;
-      at_is = notes.place.at ∙ is.at_is;
-      packet_is = ap (λ (s : Settings). s.packet) notes.place.settings ∙ is.packet_is;
-      stood = record { was = hub; place = refl; stands = notes_stand session at packet n hub entries ask reply is notes; is = λ unbroken. refl };
+      stands = notes_stand n hub entries ask reply is notes;
       ours = subst (λ l. AllByRecursion (λ (e : Entry). IsOurs (place_in hub) e.ask) l) (sym notes.grown)
           (subst (λ p. AllByRecursion (λ (e : Entry). IsOurs p e.ask) (n.entries ++ noted ask reply)) place
           (all_append (λ (e : Entry). IsOurs (place_of n) e.ask) n.entries (noted ask reply) is.ours (noted_all (λ (e : Entry). IsOurs (place_of n) e.ask) ask reply notes.ours)));
@@ -102,11 +85,18 @@ notes_keep_with session at packet n hub entries ask reply is notes query ends le
       live = live;
     }
 
-pub notes_keep : (session : ℕ) (at : ℤ) (packet : ℕ) (n : Noding) (hub : Hubbing) (entries : List Entry) (ask : HubAsk) (reply : HubReply)
-    → IsNode session at packet n → Notes n hub entries ask reply → left_by ask reply ≡ [] → IsNode session at packet (after n hub n.query n.ends entries)
-notes_keep session at packet n hub entries ask reply is notes none_left =
-    notes_keep_with session at packet n hub entries ask reply is notes n.query n.ends (omega arith) is.ends_are
+pub notes_keep : (n : Noding) (hub : Hubbing) (entries : List Entry) (ask : HubAsk) (reply : HubReply)
+    → IsNode n → Notes n hub entries ask reply → left_by ask reply ≡ [] → IsNode (after n hub n.query n.ends entries)
+notes_keep n hub entries ask reply is notes none_left =
+    notes_keep_with n hub entries ask reply is notes n.query n.ends (omega arith) is.ends_are
     (λ ends. subst (λ l. IsLive n.query n.ends l) (sym notes.grown) (noted_lives n.query n.ends n.entries ask reply none_left (is.live ends)))
+
+-- no query was asked to begin, where none is in the ask
+noted_begun : (ask : HubAsk) (reply : HubReply) → begin_in ask ≡ [] → begins_of (noted ask reply) ≡ []
+noted_begun ask reply none_begun = elim (noted_cases ask reply) [
+  | inl h ↦ ap begins_of h.1
+  | inr h ↦ ap begins_of h ∙ append-nil (begin_in ask) ∙ none_begun
+]
 
 -- it was a worker's call
 pub notes_works : (n : Noding) (hub : Hubbing) (entries : List Entry) (ask : HubAsk) (reply : HubReply)
@@ -124,7 +114,7 @@ notes_works n hub entries ask reply notes is_of none_in none_left none_begun = r
   none_begun = noted_begun ask reply none_begun;
 }
 
--- ---- a call that does nothing, and one whose entry is lost
+-- ---- a call that does nothing
 
 pub works_not : (n : Noding) → Works n n
 works_not n = record {
@@ -140,43 +130,13 @@ works_not n = record {
   none_begun = refl;
 }
 
-abbrev pub breaking : Noding → Hubbing → Noding
-breaking n hub = record { hub = hub; query = n.query; ends = n.ends; entries = n.entries; broken = true }
-
-pub broken_keeps : (session : ℕ) (at : ℤ) (packet : ℕ) (n : Noding) (hub : Hubbing) → IsNode session at packet n → SamePlace n.hub hub → IsNode session at packet (breaking n hub)
-broken_keeps session at packet n hub is same =
-    let place = sym (place_same n.hub hub same) in
-    record {
-      session_is = same.session ∙ is.session_is;
-      at_is = same.at ∙ is.at_is;
-      packet_is = ap (λ (s : Settings). s.packet) same.settings ∙ is.packet_is;
-      stood = record { was = is.stood.was; place = is.stood.place ∙ place; stands = is.stood.stands; is = λ h. absurd (let bad : true ≡ false = h in cc) };
-      ours = subst (λ p. AllByRecursion (λ (e : Entry). IsOurs p e.ask) n.entries) place is.ours;
-      upto = is.upto;
-      ends_are = subst (λ p. AreEnds p n.query n.ends) place is.ends_are;
-      live = is.live;
-    }
-
-pub broken_works : (n : Noding) (hub : Hubbing) → SamePlace n.hub hub → Works n (breaking n hub)
-broken_works n hub same = record {
-  place = same;
-  query = refl;
-  ends = refl;
-  more = [];
-  grown = sym (append-nil n.entries);
-  few = omega arith;
-  are_of = tt;
-  none_came = refl;
-  none_left = refl;
-  none_begun = refl;
-}
-
 -- ---- what it is good for
 
-pub node_lawful : (session : ℕ) (at : ℤ) (packet : ℕ) (n : Noding) → IsNode session at packet n → IsLawful n
-node_lawful session at packet n is = record {
-  law = subst (λ p. HubLaw p n.entries) is.stood.place is.stood.stands.goes.law;
-  emission = subst (λ p. EmissionLaw p n.entries) is.stood.place is.stood.stands.goes.emission;
+pub node_lawful : (n : Noding) → IsNode n → IsLawful n
+node_lawful n is = record {
+  stands = is.stands;
+  law = is.stands.goes.law;
+  emission = is.stands.goes.emission;
   ours = is.ours;
   upto = is.upto;
   ends_are = is.ends_are;

@@ -4,15 +4,14 @@ use Rattle.std.specs.Prelude.{IfErr}
 use Rattle.std.specs.List.{Contains}
 use Rattle.ic_base.specs.declared.keys.ConnKey.{ConnKey}
 use Rattle.ic_base.specs.declared.keys.ConnEnd.{ConnEnd}
-use Rattle.ic_base.specs.declared.datagram.Parcel.{Parcel}
 use Rattle.ic_base.specs.declared.port.PortNo.{PortNo}
 use Rattle.ic_base.specs.declared.port.PortNo.TheVariants as port
 use Rattle.ic_base.specs.declared.port.PortReply.{PortReply}
-use Rattle.ic_base.specs.declared.port.PortReply.TheVariants.{Did, Gave, Refused}
-use Rattle.ic_base.specs.Ports.{SendsTo, SendsAs, HearsFrom, did, gave, CountsBusy, MayRefusePut, MayRefuseTake, MayRefuseHalt}
+use Rattle.ic_base.specs.declared.port.PortReply.TheVariants.{Did, Refused}
+use Rattle.ic_base.specs.Ports.{SendsTo, SendsAs, HearsFrom, did, CountsBusy, MayRefusePut, MayRefuseHalt}
 use Rattle.ic_law.specs.Points.{Place}
 use Rattle.ic_law.specs.Asking.{AreEnds}
-use Rattle.ic_port.specs.Telling.{TellsPut, TellsTake, TellsHalt}
+use Rattle.ic_port.specs.Telling.{TellsPut, TellsHalt}
 
 abbrev pub key_of : ℕ → ℕ → ℕ → ℤ → ℤ → ConnKey
 key_of session query motion from to = record { session = session; query = query; motion = motion; from = from; to = to }
@@ -63,16 +62,6 @@ put_refused ends motion to key is (Err (port.TooLong which)) h = subst (SendsAs 
 put_refused ends motion to key is (Err port.Busy) h = tt
 put_refused ends motion to key is (Err port.Memory) h = tt
 
-pub take_refused : (r : Result Parcel PortNo) → IfErr r TellsTake → IfErr r MayRefuseTake
-take_refused (Ok p) h = tt
-take_refused (Err port.Full) h = h
-take_refused (Err port.Empty) h = tt
-take_refused (Err port.Stopped) h = h
-take_refused (Err port.Ended) h = tt
-take_refused (Err (port.TooLong which)) h = h
-take_refused (Err port.Busy) h = tt
-take_refused (Err port.Memory) h = tt
-
 pub halt_refused : (r : Result (Unit {0}) PortNo) → IfErr r TellsHalt → IfErr r MayRefuseHalt
 halt_refused (Ok u) h = tt
 halt_refused (Err port.Full) h = h
@@ -85,7 +74,7 @@ halt_refused (Err port.Memory) h = tt
 
 -- ---- it is never busy
 
-still : (reply : PortReply) → (reply ≡ Refused port.Busy → ⊥) → CountsBusy 0 0 reply
+pub still : (reply : PortReply) → (reply ≡ Refused port.Busy → ⊥) → CountsBusy 0 0 reply
 still reply not_busy = record { later = omega arith; rose = λ busy. absurd (not_busy busy) }
 
 pub put_counts : (key : ConnKey) (r : Result (Unit {0}) PortNo) → IfErr r (TellsPut key) → CountsBusy 0 0 (did r)
@@ -97,16 +86,6 @@ put_counts key (Err port.Ended) h = absurd h
 put_counts key (Err (port.TooLong which)) h = still (Refused (port.TooLong which)) (λ bad. cc)
 put_counts key (Err port.Busy) h = absurd h
 put_counts key (Err port.Memory) h = still (Refused port.Memory) (λ bad. cc)
-
-pub take_counts : (r : Result Parcel PortNo) → IfErr r TellsTake → CountsBusy 0 0 (gave r)
-take_counts (Ok p) h = still (Gave p) (λ bad. cc)
-take_counts (Err port.Full) h = absurd h
-take_counts (Err port.Empty) h = still (Refused port.Empty) (λ bad. cc)
-take_counts (Err port.Stopped) h = absurd h
-take_counts (Err port.Ended) h = still (Refused port.Ended) (λ bad. cc)
-take_counts (Err (port.TooLong which)) h = absurd h
-take_counts (Err port.Busy) h = absurd h
-take_counts (Err port.Memory) h = still (Refused port.Memory) (λ bad. cc)
 
 pub halt_counts : (r : Result (Unit {0}) PortNo) → IfErr r TellsHalt → CountsBusy 0 0 (did r)
 halt_counts (Ok u) h = still Did (λ bad. cc)

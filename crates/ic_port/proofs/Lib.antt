@@ -1,4 +1,3 @@
-pub mod Noting
 pub mod Keeping
 pub mod Keys
 pub mod Taken

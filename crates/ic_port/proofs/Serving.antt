@@ -1,6 +1,7 @@
 -- The calls of a worker, as entries.
-use Rattle.std.proofs.Common.{◌≡◌, ℕ, ◌≤◌, ℤ, List, [], ◌∷◌, ◌++◌, false, Option, Result, ap, sym, ◌∙◌, subst, arith}
+use Rattle.std.proofs.Common.{◌≡◌, ℕ, ◌≤◌, ℤ, List, [], ◌∷◌, ◌++◌, cond, ◌==◌, Result, refl, ap, sym, ◌∙◌, subst, arith}
 use Rattle.std.specs.Prelude.{IfErr}
+use Rattle.std.proofs.lemmas.Bool.Decides.{Decides-eqb}
 use Rattle.ic_base.specs.declared.keys.ConnKey.{ConnKey}
 use Rattle.ic_base.specs.declared.port.PortNo.{PortNo}
 use Rattle.ic_base.specs.declared.port.PortAsk.{PortAsk}
@@ -17,34 +18,33 @@ use Rattle.ic_hub.specs.Standing.{Stands}
 use Rattle.ic_hub.specs.Calls.{SamePlace}
 use Rattle.ic_law.specs.Logs.{logs_by, log_of, put_logs, take_logs, halt_logs, IsOurs, IsUpto, SendsHere, EndsHere}
 use Rattle.ic_port.specs.Noding.{Noding, place_of, IsNode}
-use Rattle.ic_port.specs.Telling.{kept, entry_with, TellsPut}
-use Rattle.ic_port.proofs.Noting.{noted_log, its_own}
+use Rattle.ic_port.specs.Telling.{TellsPut}
+use Rattle.ic_hub.specs.Noting.{noted}
+use Rattle.ic_hub.proofs.Noting.{noted_log}
 use Rattle.ic_port.proofs.Keeping.{Notes}
 use Rattle.ic_port.proofs.Keys.{key_of, sends_as, put_refused}
 
 -- ---- any call
 
 -- what a call did to the hub and to the entries, step by step
-pub record Called (n : Noding) (hub : Hubbing) (entries reserved : List Entry) (asked : HubAsk) (ask : HubAsk) (reply : HubReply) (told : Option HubReply) : Type 0 where
-  pub unbroken : n.broken ≡ false
+pub record Called (n : Noding) (hub : Hubbing) (entries reserved : List Entry) (asked : HubAsk) (ask : HubAsk) (reply : HubReply) (told : HubReply) : Type 0 where
   pub place : SamePlace n.hub hub
   pub same : reply ≡ Memory → hub ≡ n.hub
   pub stands : (h : List Entry) → Stands n.hub h → Stands hub (h ++ record { ask = ask; reply = reply } ∷ [])
   pub asked_is : asked ≡ ask
   pub reserved_is : reserved ≡ n.entries
-  pub told_is : told ≡ kept reply
-  pub entries_are : entries ≡ reserved ++ entry_with asked told
+  pub told_is : told ≡ reply
+  pub entries_are : entries ≡ reserved ++ noted asked told
 
-pub called_notes : (n : Noding) (hub : Hubbing) (entries reserved : List Entry) (asked ask : HubAsk) (reply : HubReply) (told : Option HubReply)
+pub called_notes : (n : Noding) (hub : Hubbing) (entries reserved : List Entry) (asked ask : HubAsk) (reply : HubReply) (told : HubReply)
     → Called n hub entries reserved asked ask reply told → IsOurs (place_of n) ask → IsUpto n.query ask → Notes n hub entries ask reply
 called_notes n hub entries reserved asked ask reply told c ours upto = record {
-  unbroken = c.unbroken;
   place = c.place;
   same = c.same;
   stands = c.stands n.entries;
   ours = ours;
   upto = upto;
-  grown = c.entries_are ∙ ap (λ l. l ++ entry_with asked told) c.reserved_is ∙ ap (λ a. n.entries ++ entry_with a told) c.asked_is ∙ ap (λ r. n.entries ++ entry_with ask r) c.told_is;
+  grown = c.entries_are ∙ ap (λ l. l ++ noted asked told) c.reserved_is ∙ ap (λ a. n.entries ++ noted a told) c.asked_is ∙ ap (λ r. n.entries ++ noted ask r) c.told_is;
 }
 
 -- ---- on a connection
@@ -59,6 +59,10 @@ pub its_query : (query : ℕ) (key : ConnKey) (session motion : ℕ) (from to : 
 its_query query key session motion from to is = let same : key.query ≡ query = ap (λ (k : ConnKey). k.query) is in omega (arith, same)
 
 -- ---- logs
+
+-- the test on one number and itself
+its_own : {A : Type 0} (n : ℕ) (xs : List A) → cond (n == n) xs [] ≡ xs
+its_own n xs = ap (λ b. cond b xs []) ((Decides-eqb n n).1 refl)
 
 pub put_same : (query session motion : ℕ) (from to : ℤ) (key : ConnKey) (chunk : List ℕ) (reply : HubReply) → key ≡ key_of session query motion from to
     → put_logs (ask.Put motion to chunk) key reply ≡ logs_by query (Put key chunk) reply
@@ -95,9 +99,9 @@ called_log n m hub entries ask reply asked told view notes same =
 
 -- ---- refusals
 
-pub put_may : (session : ℕ) (at : ℤ) (packet : ℕ) (n m : Noding) (key : ConnKey) (motion : ℕ) (to : ℤ) (told : Result (Unit {0}) PortNo) → IsNode session at packet n → n ≡ m
+pub put_may : (n m : Noding) (key : ConnKey) (motion : ℕ) (to : ℤ) (told : Result (Unit {0}) PortNo) → IsNode n → n ≡ m
     → key ≡ key_of n.hub.session n.query motion n.hub.at to → SendsTo m.ends motion to → IfErr told (TellsPut key) → IfErr told (MayRefusePut m.ends motion to)
-put_may session at packet n m key motion to told is view key_is sends tells =
+put_may n m key motion to told is view key_is sends tells =
     let sent : SendsTo n.ends motion to = subst (λ (x : Noding). SendsTo x.ends motion to) (sym view) sends in
     subst (λ (x : Noding). IfErr told (MayRefusePut x.ends motion to)) view
     (put_refused n.ends motion to key (subst (λ k. SendsAs n.ends motion to k) (sym key_is) (sends_as (place_of n) n.query n.ends motion to is.ends_are sent)) told tells)

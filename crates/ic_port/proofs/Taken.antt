@@ -1,13 +1,15 @@
 -- From whom a parcel comes.
 use Rattle.std.proofs.Common.{◌≡◌, ◌≢◌, ℕ, ℤ, List, [], ◌∷◌, ◌++◌, false, Result, Ok, Err, refl, ap, sym, ◌∙◌, subst}
-use Rattle.std.specs.Prelude.{IfOk}
+use Rattle.std.specs.Prelude.{IfOk, IfErr}
 use Rattle.std.specs.List.{Contains}
 use Rattle.ic_base.specs.declared.keys.ConnKey.{ConnKey}
 use Rattle.ic_base.specs.declared.keys.ConnEnd.{ConnEnd}
 use Rattle.ic_base.specs.declared.datagram.Datagram.{Datagram}
 use Rattle.ic_base.specs.declared.datagram.Parcel.{Parcel}
 use Rattle.ic_base.specs.declared.port.PortNo.{PortNo}
-use Rattle.ic_base.specs.Ports.{HearsFrom, Hears}
+use Rattle.ic_base.specs.declared.port.PortNo.TheVariants as port
+use Rattle.ic_base.specs.declared.port.PortReply.TheVariants.{Gave, Refused}
+use Rattle.ic_base.specs.Ports.{HearsFrom, Hears, MayRefuseTake, CountsBusy, gave}
 use Rattle.ic_law.specs.declared.history.HubAsk.TheVariants.{TakeFrom}
 use Rattle.ic_law.specs.declared.history.HubReply.TheVariants.{Took}
 use Rattle.ic_law.specs.declared.history.HubNo.{HubNo}
@@ -20,14 +22,14 @@ use Rattle.ic_law.specs.Arriving.{IsOfMotion, AnswersTakeAny, AllOver, NoneReady
 use Rattle.ic_law.specs.Hub.{HubLaw}
 use Rattle.ic_law.proofs.Lists.{Contains-none}
 use Rattle.ic_law.proofs.Lives.{live_once}
-use Rattle.ic_hub.specs.Entries.{take_entry, take_from_entry}
+use Rattle.ic_hub.specs.Entries.{take_entry, take_from_entry, own_of}
 use Rattle.ic_hub.specs.Hubbing.{Hubbing}
 use Rattle.ic_hub.specs.Standing.{Stands}
 use Rattle.ic_hub.specs.Calls.{SamePlace}
 use Rattle.ic_port.specs.Noding.{Noding, place_of, IsNode}
-use Rattle.ic_port.specs.Telling.{IsGiven}
-use Rattle.ic_port.proofs.Keeping.{place_same, node_stands}
-use Rattle.ic_port.proofs.Keys.{key_of, heard_at}
+use Rattle.ic_port.specs.Telling.{IsGiven, LogsTake, told_of}
+use Rattle.ic_hub.proofs.Noting.{place_same}
+use Rattle.ic_port.proofs.Keys.{key_of, heard_at, still}
 
 -- an end is among them
 pub not_none : (ends : List ConnEnd) (end : ConnEnd) → Contains ends end → ends ≢ []
@@ -95,26 +97,86 @@ if_ok P Q f (Err e) h = tt
 law_of : (n : Noding) (hub : Hubbing) (h : List Entry) → SamePlace n.hub hub → Stands hub h → HubLaw (place_of n) h
 law_of n hub h same stands = subst (λ p. HubLaw p h) (place_same n.hub hub same) stands.goes.law
 
-pub any_from : (session : ℕ) (at : ℤ) (packet : ℕ) (n m : Noding) (hub : Hubbing) (motion : ℕ) (answer : Result (Parcel × List Datagram) HubNo) (told : Result Parcel PortNo)
-    → IsNode session at packet n → n ≡ m → n.broken ≡ false → SamePlace n.hub hub → ((h : List Entry) → Stands n.hub h → Stands hub (h ++ take_entry n.query motion answer ∷ []))
+pub any_from : (n m : Noding) (hub : Hubbing) (motion : ℕ) (answer : Result (Parcel × List Datagram) HubNo) (told : Result Parcel PortNo)
+    → IsNode n → n ≡ m → SamePlace n.hub hub → ((h : List Entry) → Stands n.hub h → Stands hub (h ++ take_entry n.query motion answer ∷ []))
     → Hears m.ends motion → IfOk told (IsGiven answer) → IfOk told (λ (p : Parcel). HearsFrom m.ends motion p.from)
-any_from session at packet n m hub motion answer told is view unbroken same stands hears given =
-    let was : Stands n.hub n.entries = node_stands session at packet n is unbroken in
+any_from n m hub motion answer told is view same stands hears given =
+    let was : Stands n.hub n.entries = is.stands in
     let heard : Hears n.ends motion = subst (λ (x : Noding). Hears x.ends motion) (sym view) hears in
     subst (λ (x : Noding). IfOk told (λ (p : Parcel). HearsFrom x.ends motion p.from)) view
     (if_ok (IsGiven answer) (λ (p : Parcel). HearsFrom n.ends motion p.from)
     (λ p here. from_any (place_of n) n.entries n.query motion n.ends answer p is.ends_are is.live heard was.goes.law (law_of n hub (n.entries ++ take_entry n.query motion answer ∷ []) same (stands n.entries was)) here)
     told given)
 
-pub one_from : (session : ℕ) (at : ℤ) (packet : ℕ) (n m : Noding) (hub : Hubbing) (key : ConnKey) (motion : ℕ) (sender : ℤ) (answer : Result (Parcel × List Datagram) HubNo) (told : Result Parcel PortNo)
-    → IsNode session at packet n → n ≡ m → n.broken ≡ false → SamePlace n.hub hub → key ≡ key_of n.hub.session n.query motion sender n.hub.at
+pub one_from : (n m : Noding) (hub : Hubbing) (key : ConnKey) (motion : ℕ) (sender : ℤ) (answer : Result (Parcel × List Datagram) HubNo) (told : Result Parcel PortNo)
+    → IsNode n → n ≡ m → SamePlace n.hub hub → key ≡ key_of n.hub.session n.query motion sender n.hub.at
     → ((h : List Entry) → Stands n.hub h → Stands hub (h ++ take_from_entry key answer ∷ []))
     → HearsFrom m.ends motion sender → IfOk told (IsGiven answer) → IfOk told (λ (p : Parcel). p.from ≡ sender)
-one_from session at packet n m hub key motion sender answer told is view unbroken same key_is stands hears given =
-    let was : Stands n.hub n.entries = node_stands session at packet n is unbroken in
+one_from n m hub key motion sender answer told is view same key_is stands hears given =
+    let was : Stands n.hub n.entries = is.stands in
     let heard : HearsFrom n.ends motion sender = subst (λ (x : Noding). HearsFrom x.ends motion sender) (sym view) hears in
     let law = law_of n hub (n.entries ++ take_from_entry key answer ∷ []) same (stands n.entries was) in
     if_ok (IsGiven answer) (λ (p : Parcel). p.from ≡ sender)
     (λ p here. from_one (place_of n) n.entries n.query motion sender n.ends answer p is.ends_are is.live heard
     (subst (λ k. HubLaw (place_of n) (n.entries ++ take_from_entry k answer ∷ [])) key_is law) here)
     told given
+
+-- ---- what a worker is told of a take
+
+told_logs : (answer : Result (Parcel × List Datagram) HubNo) → LogsTake answer (told_of (own_of answer))
+told_logs (Ok r) asked = refl
+told_logs (Err refused.Full) asked = refl
+told_logs (Err refused.Empty) asked = refl
+told_logs (Err refused.Stopped) asked = refl
+told_logs (Err refused.Ended) asked = refl
+told_logs (Err (refused.TooLong key)) asked = refl
+told_logs (Err (refused.Unknown query motion)) asked = refl
+told_logs (Err refused.Memory) asked = refl
+
+told_given : (answer : Result (Parcel × List Datagram) HubNo) → IfOk (told_of (own_of answer)) (IsGiven answer)
+told_given (Ok r) = (r.1, refl)
+told_given (Err refused.Full) = tt
+told_given (Err refused.Empty) = tt
+told_given (Err refused.Stopped) = tt
+told_given (Err refused.Ended) = tt
+told_given (Err (refused.TooLong key)) = tt
+told_given (Err (refused.Unknown query motion)) = tt
+told_given (Err refused.Memory) = tt
+
+may_refuse : (own : Result Parcel HubNo) → IfErr (told_of own) MayRefuseTake
+may_refuse (Ok p) = tt
+may_refuse (Err refused.Full) = tt
+may_refuse (Err refused.Empty) = tt
+may_refuse (Err refused.Stopped) = tt
+may_refuse (Err refused.Ended) = tt
+may_refuse (Err (refused.TooLong key)) = tt
+may_refuse (Err (refused.Unknown query motion)) = tt
+may_refuse (Err refused.Memory) = tt
+
+told_is : (answer : Result (Parcel × List Datagram) HubNo) (own : Result Parcel HubNo) (told : Result Parcel PortNo) → own ≡ own_of answer → told ≡ told_of own → told ≡ told_of (own_of answer)
+told_is answer own told own_is is = is ∙ ap told_of own_is
+
+-- the log has it
+pub taken_logs : (answer : Result (Parcel × List Datagram) HubNo) (own : Result Parcel HubNo) (told : Result Parcel PortNo) → own ≡ own_of answer → told ≡ told_of own → LogsTake answer told
+taken_logs answer own told own_is is = subst (LogsTake answer) (sym (told_is answer own told own_is is)) (told_logs answer)
+
+-- the parcel is the hub's
+pub taken_given : (answer : Result (Parcel × List Datagram) HubNo) (own : Result Parcel HubNo) (told : Result Parcel PortNo) → own ≡ own_of answer → told ≡ told_of own → IfOk told (IsGiven answer)
+taken_given answer own told own_is is = subst (λ t. IfOk t (IsGiven answer)) (sym (told_is answer own told own_is is)) (told_given answer)
+
+pub taken_may : (own : Result Parcel HubNo) (told : Result Parcel PortNo) → told ≡ told_of own → IfErr told MayRefuseTake
+taken_may own told is = subst (λ t. IfErr t MayRefuseTake) (sym is) (may_refuse own)
+
+-- it is never Busy
+never_busy : (own : Result Parcel HubNo) → CountsBusy 0 0 (gave (told_of own))
+never_busy (Ok p) = still (Gave p) (λ bad. cc)
+never_busy (Err refused.Full) = still (Refused port.Memory) (λ bad. cc)
+never_busy (Err refused.Empty) = still (Refused port.Empty) (λ bad. cc)
+never_busy (Err refused.Stopped) = still (Refused port.Memory) (λ bad. cc)
+never_busy (Err refused.Ended) = still (Refused port.Ended) (λ bad. cc)
+never_busy (Err (refused.TooLong key)) = still (Refused port.Memory) (λ bad. cc)
+never_busy (Err (refused.Unknown query motion)) = still (Refused port.Memory) (λ bad. cc)
+never_busy (Err refused.Memory) = still (Refused port.Memory) (λ bad. cc)
+
+pub taken_counts : (own : Result Parcel HubNo) (told : Result Parcel PortNo) → told ≡ told_of own → CountsBusy 0 0 (gave told)
+taken_counts own told is = subst (λ t. CountsBusy 0 0 (gave t)) (sym is) (never_busy own)

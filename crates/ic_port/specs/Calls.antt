@@ -65,7 +65,6 @@ pub record Adds (entry : Entry) (a b : Noding) : Type 0 where
   pub query : b.query ≡ a.query
   pub ends : b.ends ≡ a.ends
   pub entries : b.entries ≡ a.entries ++ entry ∷ []
-  pub broken : b.broken ≡ a.broken
 
 -- the query began with these ends; its worker has no log yet
 pub record Begins (query : ℕ) (ends : List ConnEnd) (a b : Noding) : Type 0 where
@@ -73,10 +72,9 @@ pub record Begins (query : ℕ) (ends : List ConnEnd) (a b : Noding) : Type 0 wh
   pub query_is : b.query ≡ query
   pub ends_are : b.ends ≡ ends
   pub entries : b.entries ≡ a.entries ++ begin_entry query ends (Ok tt) ∷ []
-  pub broken : b.broken ≡ a.broken
   pub log : log_of query b.entries ≡ []
 
--- the hub refused to begin it, or nothing happened for want of memory
+-- the hub refused to begin it, or nothing happened since it found no memory
 abbrev pub BeginRefused : ℕ → List ConnEnd → BeginNo → Noding → Noding → Type 0
 BeginRefused query ends (begin.Old top) a b = Adds (begin_entry query ends (Err (begin.Old top))) a b
 BeginRefused query ends begin.Twice a b = Adds (begin_entry query ends (Err begin.Twice)) a b
@@ -93,7 +91,7 @@ pub record Ticks (a b : Noding) : Type 0 where
   pub emitted : List Datagram
   pub adds : Adds (tick_entry (Ok emitted)) a b
 
--- the hub refused to let its clock go on, or nothing happened for want of memory
+-- the hub refused to let its clock go on, or nothing happened since it found no memory
 abbrev pub TickRefused : TickNo → Noding → Noding → Type 0
 TickRefused (tick.Spent key seq tries) a b = Adds (tick_entry (Err (tick.Spent key seq tries))) a b
 TickRefused tick.Memory a b = b ≡ a
@@ -104,7 +102,6 @@ pub record Leaves (a b : Noding) : Type 0 where
   pub query : b.query ≡ a.query
   pub ends : b.ends ≡ []
   pub entries : b.entries ≡ a.entries ++ leave_entry a.query (Ok tt) ∷ []
-  pub broken : b.broken ≡ a.broken
 
 -- the hub refused to leave it
 pub record Stays (a b : Noding) : Type 0 where

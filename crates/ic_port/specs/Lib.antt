@@ -1,4 +1,3 @@
 pub mod Noding
 pub mod Calls
 pub mod Telling
-pub mod Putting

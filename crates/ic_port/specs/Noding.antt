@@ -1,9 +1,11 @@
 -- A hub with its history, as contracts see it, and what is always true of it.
-use Rattle.std.specs.Prelude.{◌≡◌, ◌≢◌, ℕ, ℤ, List, [], Bool, false}
+use Rattle.std.specs.Prelude.{◌≢◌, ℕ, ℤ, List, [], Option, Some, None}
 use Rattle.std.specs.List.{AllByRecursion}
 use Rattle.ic_base.specs.declared.keys.ConnEnd.{ConnEnd}
 use Rattle.ic_base.specs.declared.settings.Settings.{Settings}
+use Rattle.ic_base.specs.declared.datagram.Datagram.{Datagram}
 use Rattle.ic_law.specs.declared.history.Entry.{Entry}
+use Rattle.ic_law.specs.History.{emits}
 use Rattle.ic_law.specs.Points.{Place, IsLive}
 use Rattle.ic_law.specs.Asking.{AreEnds}
 use Rattle.ic_law.specs.Emission.{EmissionLaw}
@@ -23,12 +25,15 @@ pub record Noding : Type 0 where
   pub ends : List ConnEnd
   -- what the hub was asked, with its replies
   pub entries : List Entry
-  -- an entry was lost for want of memory
-  pub broken : Bool
 
 -- before the first call
 abbrev pub fresh : ℕ → ℤ → Settings → Noding
-fresh session at settings = record { hub = fresh_hub session at settings; query = 0; ends = []; entries = []; broken = false }
+fresh session at settings = record { hub = fresh_hub session at settings; query = 0; ends = []; entries = [] }
+
+-- what was emitted with an entry, if there is one
+abbrev pub emitted_with : Option Entry → List Datagram
+emitted_with None = []
+emitted_with (Some e) = emits e
 
 -- where it is
 abbrev pub place_of : Noding → Place
@@ -36,9 +41,10 @@ place_of n = place_in n.hub
 
 -- ---- what is always true
 
--- Its entries keep the laws of hubs, broken or not. What workers asked is of connections that have their side here, and of
--- its query or of earlier ones. Where its query has ends here, it is live with them.
+-- Its hub stands for its entries, which keep the laws of hubs. What workers asked is of connections that have their side
+-- here, and of its query or of earlier ones. If its query has ends here, it is live with them.
 pub record IsLawful (n : Noding) : Type 0 where
+  pub stands : Stands n.hub n.entries
   pub law : HubLaw (place_of n) n.entries
   pub emission : EmissionLaw (place_of n) n.entries
   pub ours : AllByRecursion (λ e. IsOurs (place_of n) e.ask) n.entries
@@ -46,19 +52,9 @@ pub record IsLawful (n : Noding) : Type 0 where
   pub ends_are : AreEnds (place_of n) n.query n.ends
   pub live : n.ends ≢ [] → IsLive n.query n.ends n.entries
 
--- a hub of this place stood for the entries; it is the one that the node has, unless an entry was lost
-pub record Stood (n : Noding) : Type 0 where
-  pub was : Hubbing
-  pub place : place_in was ≡ place_in n.hub
-  pub stands : Stands was n.entries
-  pub is : n.broken ≡ false → was ≡ n.hub
-
--- session, segment and greatest packet as it keeps them itself are the hub's
-pub record IsNode (session : ℕ) (at : ℤ) (packet : ℕ) (n : Noding) : Type 0 where
-  pub session_is : n.hub.session ≡ session
-  pub at_is : n.hub.at ≡ at
-  pub packet_is : n.hub.settings.packet ≡ packet
-  pub stood : Stood n
+-- what the code keeps true; the laws follow from the first
+pub record IsNode (n : Noding) : Type 0 where
+  pub stands : Stands n.hub n.entries
   pub ours : AllByRecursion (λ e. IsOurs (place_of n) e.ask) n.entries
   pub upto : AllByRecursion (λ e. IsUpto n.query e.ask) n.entries
   pub ends_are : AreEnds (place_of n) n.query n.ends

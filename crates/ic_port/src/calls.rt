@@ -5,8 +5,10 @@ ghost use Rattle.ic_port.specs.Noding.{place_of};
 ghost use Rattle.ic_port.specs.Calls.{Begins, BeginRefused, Arrives, Ticks, TickRefused, LeftOrNot};
 
 use crate::node::Node;
-use crate::telling::{begun, note, ticked, told_tick};
+use crate::telling::told_tick;
 use ic_base::{BeginNo, ConnEnd, ConnEnds, Datagram};
+use ic_hub::note;
+use ic_hub::replies::{begun, ticked};
 use ic_law::{HubAsk, HubReply, TickNo};
 use std::alloc::{AllocError, Global};
 
@@ -19,9 +21,6 @@ impl Node {
         ensures ok { OnOk result (Begins query ends.items self.old self.new) }
         ensures err { IfErr result (λ refusal. BeginRefused query ends.items refusal self.old self.new) }
     {
-        if self.broken {
-            return Err(BeginNo::Memory);
-        }
         let Ok(kept) = Vec::from_slice(alloc, ends.as_slice()) else {
             return Err(BeginNo::Memory);
         };
@@ -45,12 +44,9 @@ impl Node {
         ensures ok { OnOk result (Arrives datagram self.old self.new) }
         ensures err { OnErr result (self.new ≡ self.old) }
     {
-        if self.broken {
-            return Err(AllocError);
-        }
         self.entries.reserve(1)?;
         let (how, datagrams) = self.hub.arrive(alloc, &datagram)?;
-        let reply = Some(HubReply::Came(how, datagrams));
+        let reply = HubReply::Came(how, datagrams);
         note(&mut self.entries, HubAsk::Arrive { datagram }, reply);
         Ok(())
     }
@@ -60,9 +56,6 @@ impl Node {
         ensures ok { OnOk result (Ticks self.old self.new) }
         ensures err { IfErr result (λ refusal. TickRefused refusal self.old self.new) }
     {
-        if self.broken {
-            return Err(TickNo::Memory);
-        }
         let Ok(()) = self.entries.reserve(1) else {
             return Err(TickNo::Memory);
         };
@@ -78,13 +71,10 @@ impl Node {
         ensures ok { IfOk result (λ left. LeftOrNot left self.old self.new) }
         ensures err { OnErr result (self.new ≡ self.old) }
     {
-        if self.broken {
-            return Err(AllocError);
-        }
         self.entries.reserve(1)?;
         let query = self.query;
         let answer = self.hub.leave(query);
-        let reply = Some(HubReply::Left(answer));
+        let reply = HubReply::Left(answer);
         note(&mut self.entries, HubAsk::Leave { query }, reply);
         if answer.is_err() {
             return Ok(false);

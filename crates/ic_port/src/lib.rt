@@ -4,8 +4,8 @@
 //! all that the hub was asked, and the laws of hubs hold of it.
 //!
 //! Drive it so. `begin` a query with its ends here. Its worker speaks to the node as a [`Port`]. The driver sends what
-//! the newest entries emit, hands over what comes by `arrive`, says when a `tick` is over, and ends the query by `leave`.
-//! `entries`, `query`, `ends`, `at`, `session` and `is_broken` look.
+//! each call `emitted`, hands over what comes by `arrive`, says when a `tick` is over, and ends the query by `leave`.
+//! `entries`, `query`, `ends`, `at` and `session` look.
 //!
 //! Below: `ic_hub`, and `ic_law` for what a worker's log is. Above: whoever runs the nodes of a query over a network.
 //!
@@ -15,7 +15,6 @@
 mod calls;
 mod node;
 mod port;
-mod puttable;
 mod telling;
 #[cfg(test)]
 mod tests;

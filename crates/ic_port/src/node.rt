@@ -1,33 +1,24 @@
 // The hub of a segment, with its history.
-ghost use Rattle.std.specs.Prelude.{◌≡◌, IfOk};
+ghost use Rattle.std.specs.Prelude.{◌≡◌, IfOk, slice_get};
 ghost use Rattle.ic_base.specs.Settings.{AreChecked};
-ghost use Rattle.ic_port.specs.Noding.{fresh, IsLawful};
+ghost use Rattle.ic_port.specs.Noding.{fresh, emitted_with, IsLawful};
 
-use ic_base::{ConnEnd, SegId, Settings};
+use ic_base::{ConnEnd, Datagram, SegId, Settings};
 use ic_hub::Hub;
 use ic_law::{Entry, History};
 use std::alloc::{AllocError, Global};
 use std::marker::Model;
 
-/// A hub that serves the worker of one query at a time, with all that it was asked and its replies.
-///
-/// It is a port of that worker. Where no memory is left for the second owner of a parcel that the hub has given, that
-/// entry is lost and the node is broken: it keeps its entries, and answers want of memory to every later call.
+/// A hub that serves the worker of one query at a time, with all that it was asked and its replies. It is a port of that
+/// worker.
 #[derive(Drop)]
 pub struct Node {
     pub(crate) hub: Hub,
-    /// The hub's.
-    pub(crate) session: u32,
-    /// The hub's.
-    pub(crate) at: SegId,
-    /// The greatest packet of the hub's settings.
-    pub(crate) packet: u32,
     /// The last query that was begun, and 0 before the first.
     pub(crate) query: u32,
     /// Its ends here, and none once it was left.
     pub(crate) ends: Vec<ConnEnd>,
     pub(crate) entries: Vec<Entry>,
-    pub(crate) broken: bool,
 }
 
 impl Model for Node {
@@ -40,15 +31,13 @@ impl Model for Node {
       query = n.query;
       ends = n.ends.items;
       entries = n.entries.items;
-      broken = n.broken;
     } };
 
-    ghost invariant = { λ n. IsNode n.session n.at n.packet (record {
+    ghost invariant = { λ n. IsNode (record {
       hub = n.hub;
       query = n.query;
       ends = n.ends.items;
       entries = n.entries.items;
-      broken = n.broken;
     }) };
 }
 
@@ -65,17 +54,13 @@ impl Node {
     {
         Ok(Node {
             hub: Hub::new(alloc, session, at, settings)?,
-            session,
-            at,
-            packet: settings.packet,
             query: 0,
             ends: Vec::new(alloc),
             entries: Vec::new(alloc),
-            broken: false,
         })
     }
 
-    /// Does nothing. Its clause: the laws of hubs hold of its entries, and the ends of its query are live here.
+    /// Does nothing. Its clause: its hub stands for its entries, the laws of hubs hold of them, and the ends of its query are live here.
     pub fn lawful(&self)
         ensures { IsLawful self.now }
     {
@@ -89,11 +74,15 @@ impl Node {
         self.entries.as_slice()
     }
 
-    /// Whether an entry was lost for want of memory.
-    pub fn is_broken(&self) -> bool
-        ensures { result ≡ self.now.broken }
+    /// What was emitted with the entry at this place, from 0; nothing if there is no such entry. A call adds one entry at
+    /// most: who notes how many there are before it so has the datagrams of that call.
+    pub fn emitted(&self, place: usize) -> &[Datagram]
+        ensures { result.now ≡ emitted_with (slice_get self.now.entries place) }
     {
-        self.broken
+        match self.entries.get(place) {
+            Some(entry) => entry.reply.datagrams(),
+            None => &[],
+        }
     }
 
     /// The last query that was begun, and 0 before the first.
@@ -114,13 +103,13 @@ impl Node {
     pub fn at(&self) -> SegId
         ensures { result ≡ self.now.hub.at }
     {
-        self.at
+        self.hub.at()
     }
 
     pub fn session(&self) -> u32
         ensures { result ≡ self.now.hub.session }
     {
-        self.session
+        self.hub.session()
     }
 
     /// Gives the entries alone. Takes no memory.

@@ -6,9 +6,10 @@ ghost use Rattle.ic_law.specs.Logs.{log_of};
 ghost use Rattle.ic_port.specs.Calls.{Works};
 
 use crate::node::Node;
-use crate::puttable::is_puttable;
-use crate::telling::{given, note, told_halt, told_put, told_taken};
+use crate::telling::{told_halt, told_put, told_taken};
 use ic_base::{Bytes, ConnKey, Parcel, Port, PortNo, SegId};
+use ic_hub::note;
+use ic_hub::replies::{gave, took};
 use ic_law::HubAsk;
 use std::alloc::Global;
 
@@ -18,10 +19,10 @@ impl Node {
         ensures { result ≡ record { session = self.now.hub.session; query = self.now.query; motion = motion; from = self.now.hub.at; to = to } }
     {
         ConnKey {
-            session: self.session,
+            session: self.hub.session(),
             query: self.query,
             motion,
-            from: self.at,
+            from: self.hub.at(),
             to,
         }
     }
@@ -31,11 +32,11 @@ impl Node {
         ensures { result ≡ record { session = self.now.hub.session; query = self.now.query; motion = motion; from = from; to = self.now.hub.at } }
     {
         ConnKey {
-            session: self.session,
+            session: self.hub.session(),
             query: self.query,
             motion,
             from,
-            to: self.at,
+            to: self.hub.at(),
         }
     }
 }
@@ -59,16 +60,13 @@ impl Port for Node {
         ensures busy { CountsBusy 0 0 (did result) }
         ensures refusals { IfErr result (MayRefusePut self.old.ends motion to) }
     {
-        if self.broken || !is_puttable(self.packet, chunk) {
-            return Err(PortNo::Memory);
-        }
         let key = self.key_to(motion, to);
         let bytes = Bytes::from_slice(alloc, chunk)?;
         self.entries.reserve(1)?;
         let answer = self.hub.put(alloc, &key, chunk);
         let told = told_put(&key, &answer);
         let ask = HubAsk::Put { key, chunk: bytes };
-        note(&mut self.entries, ask, given(answer));
+        note(&mut self.entries, ask, gave(answer));
         told
     }
 
@@ -80,14 +78,11 @@ impl Port for Node {
         ensures busy { CountsBusy 0 0 (did result) }
         ensures refusals { IfErr result (MayRefusePut self.old.ends motion to) }
     {
-        if self.broken {
-            return Err(PortNo::Memory);
-        }
         let key = self.key_to(motion, to);
         self.entries.reserve(1)?;
         let answer = self.hub.finish(alloc, &key);
         let told = told_put(&key, &answer);
-        note(&mut self.entries, HubAsk::Finish { key }, given(answer));
+        note(&mut self.entries, HubAsk::Finish { key }, gave(answer));
         told
     }
 
@@ -100,18 +95,12 @@ impl Port for Node {
         ensures refusals { IfErr result MayRefuseTake }
         ensures from { IfOk result (λ parcel. HearsFrom self.old.ends motion parcel.from) }
     {
-        if self.broken {
-            return Err(PortNo::Memory);
-        }
         self.entries.reserve(1)?;
         let query = self.query;
         let answer = self.hub.take(alloc, query, motion);
-        let Some((reply, told)) = told_taken(answer) else {
-            self.broken = true;
-            return Err(PortNo::Memory);
-        };
-        note(&mut self.entries, HubAsk::Take { query, motion }, reply);
-        told
+        let taken = took(answer);
+        note(&mut self.entries, HubAsk::Take { query, motion }, taken.0);
+        told_taken(taken.1)
     }
 
     fn take_from(&mut self, alloc: Global, motion: u32, sender: SegId) -> Result<Parcel, PortNo>
@@ -123,18 +112,12 @@ impl Port for Node {
         ensures refusals { IfErr result MayRefuseTake }
         ensures from { IfOk result (λ parcel. parcel.from ≡ sender) }
     {
-        if self.broken {
-            return Err(PortNo::Memory);
-        }
         let key = self.key_from(motion, sender);
         self.entries.reserve(1)?;
         let answer = self.hub.take_from(alloc, &key);
-        let Some((reply, told)) = told_taken(answer) else {
-            self.broken = true;
-            return Err(PortNo::Memory);
-        };
-        note(&mut self.entries, HubAsk::TakeFrom { key }, reply);
-        told
+        let taken = took(answer);
+        note(&mut self.entries, HubAsk::TakeFrom { key }, taken.0);
+        told_taken(taken.1)
     }
 
     fn halt(&mut self, alloc: Global, motion: u32, sender: SegId) -> Result<(), PortNo>
@@ -145,14 +128,11 @@ impl Port for Node {
         ensures busy { CountsBusy 0 0 (did result) }
         ensures refusals { IfErr result MayRefuseHalt }
     {
-        if self.broken {
-            return Err(PortNo::Memory);
-        }
         let key = self.key_from(motion, sender);
         self.entries.reserve(1)?;
         let answer = self.hub.halt(alloc, &key);
         let told = told_halt(&answer);
-        note(&mut self.entries, HubAsk::Halt { key }, given(answer));
+        note(&mut self.entries, HubAsk::Halt { key }, gave(answer));
         told
     }
 }

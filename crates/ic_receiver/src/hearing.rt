@@ -5,6 +5,7 @@ ghost use Rattle.ic_recvring.specs.Ring.{Ring, IsRing, numbers, stored_of, front
 ghost use Rattle.ic_recvring.specs.Ring.{Packet as Kept};
 ghost use Rattle.ic_receiver.specs.Receiving.{HearsRows, TellsStored, HandsFront};
 
+use crate::shared_parcel::SharedParcel;
 use crate::take_no::TakeNo;
 use ic_base::{Bytes, ConnEnd, Datagram, Parcel};
 use ic_header::{Flags, answer_packet, listing_packet};
@@ -68,12 +69,12 @@ pub(crate) fn hear(
     }
 }
 
-/// Hands the front over. Copies its payload once.
+/// Hands the front over to two owners. Copies its payload once.
 pub(crate) fn hand_over(
     alloc: Global,
     end: &ConnEnd,
     ring: &mut RecvRing,
-) -> Result<(Parcel, Datagram), TakeNo>
+) -> Result<(SharedParcel, Datagram), TakeNo>
     ensures hands { IfOk result (λ r. HandsFront end.now ring.old r.0 r.1 ring.new) }
     ensures empty { (result ≡ Err TakeNo.Empty) ↔ (front_of ring.old ≡ None) }
     ensures goes_on { result ≡ Err TakeNo.Ended → ⊥ }
@@ -83,11 +84,11 @@ pub(crate) fn hand_over(
     let Some(front) = ring.front() else {
         return Err(TakeNo::Empty);
     };
-    let parcel = Parcel {
+    let parcel = SharedParcel::new(Parcel {
         from: end.key.from,
         payload: Bytes::from_slice(alloc, front.payload)?,
         last: front.last,
-    };
+    })?;
     let told = answer_packet(alloc, end, Flags::Ack, ring.run_end(), front.seq)?;
     ring.consume();
     Ok((parcel, told))

@@ -3,8 +3,8 @@
 //!
 //! A hub makes one [`Receiver`] for each connection that ends at its segment, and owns it while the query lives.
 //! Events are `on_packet` and `on_query`, once the hub has found that a datagram is a packet of rows or a status query
-//! of this connection. Commands of the slice are `take`, which hands over the next packet's payload, and `halt`, which
-//! says that no more is wanted. Each gives the datagram that the hub then emits. `is_over` looks whether anything can
+//! of this connection. Commands of the slice are `take`, which hands over the next packet's payload, for two
+//! owners, and `halt`, which says that no more is wanted. Each gives the datagram that the hub then emits. `is_over` looks whether anything can
 //! still be taken, `is_whole` whether all was, and `rows` how many rows were. There is nothing to do at a tick: what a
 //! receiver answers is lost or not, and the sender asks again.
 //!
@@ -16,10 +16,12 @@
 mod hearing;
 mod laws;
 mod receiver;
+mod shared_parcel;
 mod take_no;
 #[cfg(test)]
 mod tests;
 
 pub use laws::{keeps_law, memory_passes, others_pass};
 pub use receiver::Receiver;
+pub use shared_parcel::SharedParcel;
 pub use take_no::TakeNo;

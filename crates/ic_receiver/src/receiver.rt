@@ -11,11 +11,12 @@ ghost use Rattle.ic_receiver.specs.Entries.{IsHearing, IsQuerying, IsRefusing, I
 ghost use Rattle.ic_receiver.specs.Standing.{Stands, StandsOn, IsUntouched, TakesNoMore, WaitsForNext, NotReady, TakesNow, TellsRows};
 
 use crate::hearing::{hand_over, hear};
+use crate::shared_parcel::SharedParcel;
 use crate::take_no::TakeNo;
-use ic_base::{ConnEnd, Datagram, Parcel, SegId, Settings};
+use ic_base::{ConnEnd, Datagram, SegId, Settings};
+use ic_chunk::count_more;
 use ic_header::{Flags, answer_packet};
 use ic_recvring::RecvRing;
-use ic_chunk::count_more;
 use std::alloc::{AllocError, Global};
 use std::marker::Model;
 
@@ -176,7 +177,7 @@ impl Receiver {
         self.tell(alloc, seq)
     }
 
-    fn hand_over(&mut self, alloc: Global) -> Result<(Parcel, Datagram), TakeNo>
+    fn hand_over(&mut self, alloc: Global) -> Result<(SharedParcel, Datagram), TakeNo>
         ensures hands { IfOk result (λ r. HandsOver self.old r.0 r.1 self.new) }
         ensures empty { (result ≡ Err TakeNo.Empty) ↔ IsEmpty self.old }
         ensures ended { (result ≡ Err TakeNo.Ended) ↔ IsOver self.old }
@@ -189,16 +190,18 @@ impl Receiver {
             None => Err(TakeNo::Ended),
             Some(ring) => {
                 let (parcel, told) = hand_over(alloc, &self.end, ring)?;
-                self.whole = parcel.last;
-                self.rows = count_more(self.rows, parcel.payload.as_slice());
+                let taken = parcel.parcel();
+                self.whole = taken.last;
+                self.rows = count_more(self.rows, taken.payload.as_slice());
                 Ok((parcel, told))
             }
         }
     }
 
-    /// The slice takes the next packet's payload. Gives it with the answer that tells the sender of the new room.
-    /// Copies the payload once, and counts the rows that end in it: it goes over the heads of its chunks.
-    pub fn take(&mut self, alloc: Global) -> Result<(Parcel, Datagram), TakeNo>
+    /// The slice takes the next packet's payload. Gives it, for two owners, with the answer that tells the sender of
+    /// the new room. Copies the payload once, out of the ring, and counts the rows that end in it: it goes over the
+    /// heads of its chunks. All memory is taken before anything changes.
+    pub fn take(&mut self, alloc: Global) -> Result<(SharedParcel, Datagram), TakeNo>
         ensures hands { IfOk result (λ r. HandsOver self.old r.0 r.1 self.new) }
         ensures empty { (result ≡ Err TakeNo.Empty) ↔ IsEmpty self.old }
         ensures ended { (result ≡ Err TakeNo.Ended) ↔ IsOver self.old }

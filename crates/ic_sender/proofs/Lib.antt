@@ -17,4 +17,4 @@ mod Packets
 pub mod MayWaiting
 mod Ending
 mod WordLemmas
-mod LoneLemmas
+mod Listed

@@ -4,4 +4,4 @@ pub mod Entries
 pub mod Standing
 pub mod Views
 pub mod Laws
-pub mod Lone
+pub mod Listed

@@ -6,6 +6,7 @@ ghost use Rattle.ic_header.specs.Spelling.{AllowsBody};
 ghost use Rattle.ic_expire.specs.Items.{is_upto};
 ghost use Rattle.ic_expire.specs.Queue.{without};
 ghost use Rattle.ic_law.specs.Numbers.{IsIncreasingFrom, last_or};
+ghost use Rattle.ic_sender.specs.Listed.{Rises};
 ghost use Rattle.ic_sender.specs.Sending.{Sending, run_with, hearing, datagrams_again, halting, lost_with, counted, marked, named};
 ghost use Rattle.ic_sender.specs.Sending.{freed_window as freed_in, sample_by};
 ghost use Rattle.ic_sender.specs.Calls.{Hears, Gives, IsNow, WaitsAlone, LeavesRoom, unsent, acknowledging, repeating, missing_of, unknown, IsStrayAck, IsStrayDuplicate, IsStrayDisorder, IsStrayNak, IsStrayListing};
@@ -66,6 +67,7 @@ fn with_loss(window: &Window, again: &[Datagram]) -> Window
 
 /// An answer names a packet and lists others.
 fn hear_listed(flights: &mut Vec<Flight>, names: Option<u32>, lists: &[u32])
+    requires { Rises lists.now }
     ensures items { flights.new.items ≡ map (λ f. marked lists.now (named names f)) flights.old.items }
     ensures len { vec_len flights.new ≡ vec_len flights.old }
     ensures capacity { vec_capacity flights.new ≡ vec_capacity flights.old }
@@ -97,6 +99,7 @@ impl Sender {
         expiry: &mut Expiry,
     ) -> Result<Datagrams, AllocError>
         requires run { answer.now.run ≤ self.old.sent }
+        requires rises { Rises answer.now.lists.now }
         requires now { IsNow now expiry.old }
         requires alone { WaitsAlone self.old expiry.old }
         requires room { LeavesRoom (unsent self.old) expiry.old }
@@ -293,6 +296,7 @@ impl Sender {
     fn is_stray(&self, seq: u32, extra: u32, numbers: &[u32]) -> bool
         ensures yes { result ≡ true → IsStrayListing self.now.sent seq extra numbers.now }
         ensures no { result ≡ false → IsStrayListing self.now.sent seq extra numbers.now → ⊥ }
+        ensures rises { result ≡ false → Rises numbers.now }
     {
         if seq > self.numbers.sent {
             return true;
@@ -308,7 +312,8 @@ impl Sender {
 
     /// Packet `seq` came behind a gap, `extra` is the greatest that came, and `missing` has the numbers that are missing
     /// below it, four bytes each. Frees what is before the first of them, emits those again that are on their way, and
-    /// then what there is room for. Reads the numbers into memory once.
+    /// then what there is room for. Reads the numbers into memory once, and goes over them once; each packet on its way
+    /// is looked at for each number that is not above it.
     pub fn on_disorder(
         &mut self,
         alloc: Global,

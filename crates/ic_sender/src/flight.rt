@@ -2,6 +2,7 @@
 ghost use Rattle.std.specs.Prelude.{◌≡◌, ℕ, nat_lt, map, filter, ◌+◌, ◌++◌, ◌≤◌, ◌<◌, length, vec_len, vec_capacity, OnOk};
 ghost use Rattle.std.specs.Option.{option_map};
 ghost use Rattle.std.specs.List.{AllByRecursion};
+ghost use Rattle.ic_sender.specs.Listed.{Rises};
 ghost use Rattle.ic_sender.specs.Sending.{flight_at, copy_of, copies, is_among, is_it, named, marked, tried};
 
 use ic_base::Datagram;
@@ -28,11 +29,28 @@ pub(crate) fn find(flights: &[Flight], seq: u32) -> Option<&Flight>
     flights.iter().find(|flight| flight.seq == seq)
 }
 
-/// Whether this number is one of these.
+/// Whether this number is one of these, which increase. Looks at those below it and at one more.
 pub(crate) fn is_listed(numbers: &[u32], seq: u32) -> bool
+    requires { Rises numbers.now }
     ensures { result ≡ is_among numbers.now seq }
 {
-    numbers.iter().any(|number| *number == seq)
+    for number in numbers {
+        if *number >= seq {
+            return *number == seq;
+        }
+    }
+    false
+}
+
+/// A number that none of these packets is above.
+fn greatest(flights: &[Flight]) -> u32
+    ensures { AllByRecursion (λ f. f.seq ≤ result) flights.now }
+{
+    let mut greatest = 0;
+    for flight in flights {
+        greatest = flight.seq.max(greatest);
+    }
+    greatest
 }
 
 /// Adds a copy of the packet of this number, if it is on its way.
@@ -60,22 +78,28 @@ pub(crate) fn push_copies(
     Ok(())
 }
 
-/// The same, where the number is above another one.
+/// The same, where the number is above another one. No packet is above the greatest one.
 fn push_copy_above(
     flights: &[Flight],
     run: u32,
+    greatest: u32,
     seq: u32,
     out: &mut Vec<Datagram>,
 ) -> Result<(), AllocError>
+    requires { AllByRecursion (λ f. f.seq ≤ greatest) flights.now }
     ensures { OnOk result (out.new.items ≡ out.old.items ++ copy_of (flight_at (filter (λ f. nat_lt run f.seq) flights.now) seq)) }
 {
     if seq <= run {
         return Ok(());
     }
+    if seq > greatest {
+        return Ok(());
+    }
     push_copy(flights, seq, out)
 }
 
-/// The same, of those above a number.
+/// The same, of those above a number. Looks for a packet only where the number is one that may be on its way: of
+/// numbers that increase no more than there are packets.
 pub(crate) fn push_copies_above(
     flights: &[Flight],
     run: u32,
@@ -84,8 +108,9 @@ pub(crate) fn push_copies_above(
 ) -> Result<(), AllocError>
     ensures { OnOk result (out.new.items ≡ out.old.items ++ copies (filter (λ f. nat_lt run f.seq) flights.now) numbers.now) }
 {
+    let greatest = greatest(flights);
     for seq in numbers {
-        push_copy_above(flights, run, *seq, out)?;
+        push_copy_above(flights, run, greatest, *seq, out)?;
     }
     Ok(())
 }
@@ -111,6 +136,7 @@ pub(crate) fn free(flights: &mut Vec<Flight>, run: u32)
 
 /// An answer names a packet, and lists others.
 fn hear(flight: &mut Flight, names: Option<u32>, lists: &[u32])
+    requires { Rises lists.now }
     ensures { flight.new ≡ marked lists.now (named names flight.old) }
 {
     if names == Some(flight.seq) {
@@ -122,6 +148,7 @@ fn hear(flight: &mut Flight, names: Option<u32>, lists: &[u32])
 }
 
 pub(crate) fn hear_all(flights: &mut [Flight], names: Option<u32>, lists: &[u32])
+    requires { Rises lists.now }
     ensures { flights.new ≡ map (λ f. marked lists.now (named names f)) flights.old }
 {
     for flight in flights.iter_mut() {
@@ -131,7 +158,8 @@ pub(crate) fn hear_all(flights: &mut [Flight], names: Option<u32>, lists: &[u32]
 
 /// A tick emits these packets again.
 fn retry(flight: &mut Flight, numbers: &[u32])
-    requires { flight.old.tries + 1 ≤ 4294967295 }
+    requires tries { flight.old.tries + 1 ≤ 4294967295 }
+    requires rises { Rises numbers.now }
     ensures { flight.new ≡ tried numbers.now flight.old }
 {
     if is_listed(numbers, flight.seq) {
@@ -141,7 +169,8 @@ fn retry(flight: &mut Flight, numbers: &[u32])
 }
 
 pub(crate) fn retry_all(flights: &mut [Flight], numbers: &[u32])
-    requires { AllByRecursion (λ f. f.tries < 4294967295) flights.old }
+    requires rises { Rises numbers.now }
+    requires tries { AllByRecursion (λ f. f.tries < 4294967295) flights.old }
     ensures { flights.new ≡ map (tried numbers.now) flights.old }
 {
     for flight in flights.iter_mut() {

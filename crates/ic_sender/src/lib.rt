@@ -30,6 +30,3 @@ pub use laws::{
 };
 pub use send_no::SendNo;
 pub use sender::Sender;
-
-#[cfg(test)]
-mod tests;

@@ -7,6 +7,7 @@ ghost use Rattle.ic_law.specs.Numbers.{IsIncreasingFrom};
 ghost use Rattle.ic_law.specs.Clock.{last_tick};
 ghost use Rattle.ic_law.specs.Timers.{lost_where};
 ghost use Rattle.ic_law.specs.Emitting.{query_due};
+ghost use Rattle.ic_sender.specs.Listed.{Rises};
 ghost use Rattle.ic_sender.specs.Sending.{Sending, spent_of, tried, trying, waits_longer, querying, copies};
 ghost use Rattle.ic_sender.specs.Calls.{Tries, Queries, IsNow, LeavesRoom, is_unanswered};
 
@@ -56,7 +57,8 @@ fn with_loss(window: &Window, seqs: &[u32]) -> Window
 
 /// A tick emits these packets again.
 fn retry_listed(flights: &mut Vec<Flight>, seqs: &[u32])
-    requires { AllByRecursion (λ f. f.tries < 4294967295) flights.old.items }
+    requires rises { Rises seqs.now }
+    requires tries { AllByRecursion (λ f. f.tries < 4294967295) flights.old.items }
     ensures { flights.new.items ≡ map (tried seqs.now) flights.old.items }
 {
     retry_all(flights.as_mut_slice(), seqs);

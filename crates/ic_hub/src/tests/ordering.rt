@@ -3,7 +3,7 @@ ghost use Rattle.std.specs.Prelude.{◌≡◌, pos, negsuc, IfOk};
 ghost use Rattle.ic_law.specs.Asking.{IsEndHere};
 ghost use Rattle.ic_hub.specs.Hubbing.{place_in};
 
-use super::driving::{at, chunk, has_room};
+use super::driving::{at, chunk};
 use super::packets::segment;
 use crate::Hub;
 use ic_base::{Bytes, ConnEnd, ConnKey, Datagram, Datagrams, Flow, SegId, Settings};
@@ -28,7 +28,7 @@ fn stream(hub: &Hub, to: SegId) -> ConnKey
     ensures to { result.to ≡ to }
 {
     ConnKey {
-        session: hub.session,
+        session: hub.session(),
         query: 1,
         motion: 1,
         from: at(hub),
@@ -68,7 +68,6 @@ fn begun(alloc: Global) -> Result<Hub, Fail> {
 }
 
 fn put(hub: &mut Hub, alloc: Global, to: SegId, row: u8) -> Result<(), Fail> {
-    has_room(hub);
     let key = stream(hub, to);
     match hub.put(alloc, &key, &chunk(row)) {
         Ok(_datagrams) => Ok(()),

@@ -1,5 +1,5 @@
-use Rattle.gd_sim.specs.Stations.{KeepsOrEmitted}
+use Rattle.gd_sim.specs.Stations.{KeepsOrSent}
 use Rattle.gd_sim.proofs.sim.send.Given as goal
 
-abbrev pub invariant-loop-entry : goal.invariant-loop-entry
-invariant-loop-entry l = KeepsOrEmitted l.entries l.fn.network l.network
+abbrev pub invariant-loop-datagram : goal.invariant-loop-datagram
+invariant-loop-datagram l = KeepsOrSent l.datagrams l.fn.network l.network

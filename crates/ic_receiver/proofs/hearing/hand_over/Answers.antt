@@ -1,4 +1,5 @@
-use Rattle.std.proofs.Common.{◌≡◌, ◌+◌, [], refl, sym, subst, Some}
+use Rattle.std.proofs.Common.{◌≡◌, ◌+◌, [], ap, ◌∙◌, sym, subst, Some}
+use Rattle.ic_base.specs.declared.datagram.Parcel.{Parcel}
 use Rattle.ic_header.specs.declared.flags.Flags.TheVariants.{Ack}
 use Rattle.ic_recvring.specs.Ring.{Packet, front_of}
 use Rattle.ic_header.specs.Packets.{IsAnswer}
@@ -14,9 +15,9 @@ returns-clause-hands c =
     record {
       packet = packet;
       front = front;
-      from = refl;
-      payload = c.in_ok-from_slice.ensures;
-      last = refl;
+      from = ap (λ (p : Parcel). p.from) c.in_ok-parcel.ensures;
+      payload = ap (λ (p : Parcel). p.payload) c.in_ok-parcel.ensures ∙ c.in_ok-from_slice.ensures;
+      last = ap (λ (p : Parcel). p.last) c.in_ok-parcel.ensures;
       run = c.run_end.result;
       run_end = c.run_end.ensures.value;
       answer = subst (λ n. IsAnswer c.args.end.now Ack c.run_end.result n [] c.in_ok-told.told) next c.in_ok-told.ensures;

@@ -1,5 +1,6 @@
 use Rattle.std.proofs.Common.{Some, Ok, Err, ap, sym, subst, ◌∙◌, set, slice_get, length-set}
 use Rattle.std.proofs.lemmas.Result.{err_from_is_err_and}
+use Rattle.ic_base.specs.declared.datagram.Parcel.{Parcel}
 use Rattle.ic_conntab.specs.Ends.{motions_of}
 use Rattle.ic_hub.specs.contracts.query.Query.{the_view}
 use Rattle.ic_hub.specs.Hubbing.{Living}
@@ -26,10 +27,12 @@ pub invariant_of-self-2 : goal.invariant_of-self-2
 invariant_of-self-2 c =
     living_serving (the_view c.self.inside) c.in-Some.place c.index_mut.result.now c.take_one.new.receiver _ c.self.invariant
     (first_here (the_view c.self.inside) c.in-Some.place c.index.result.now c.as_slice.result.now c.receivers-places.result.now c.index_mut.result.now c.as_slice.ensures.value c.in-Some.ensures c.index_mut.ensures.value)
-    (take_end c.index_mut.result.now c.take_one.new.receiver _ c.take_one.ensures) (length-set c.self.inside.served.items c.args.motion (Some c.in_ok-parcel.parcel.from))
+    (take_end c.index_mut.result.now c.take_one.new.receiver _ c.take_one.ensures) (length-set c.self.inside.served.items c.args.motion (Some c.parcel.result.now.from))
 
 pub returns : goal.returns
 returns c = λ number is.
     let there = ap (λ (l : Living). slice_get (motions_of l.ends) c.args.motion) c.self.view_is ∙ is in
-    somebody_any (the_view c.self.inside) c.args.self.now c.args.motion number c.in-Some.place c.index.result.now c.as_slice.result.now c.receivers-places.result.now c.index_mut.result.now c.take_one.new.receiver (Ok (c.in_ok-parcel.parcel, c.in_ok-parcel.told))
-    c.self.view_is c.self.invariant c.requires.here c.as_slice.ensures.value (c.receivers-places.ensures.value number there) c.index.ensures c.in-Some.ensures c.index_mut.ensures.value c.in_ok-parcel.ensures
+    let taken : Living = record (the_view c.self.inside) { receivers = set c.self.inside.receivers.items c.in-Some.place c.take_one.new.receiver } in
+    subst (λ (p : Parcel). TakesAny c.args.motion number c.args.self.now (record taken { served = set c.self.inside.served.items c.args.motion (Some p.from) }) (Ok (c.in_ok-parcel.parcel, c.in_ok-parcel.told))) (sym c.parcel.ensures)
+    (somebody_any (the_view c.self.inside) c.args.self.now c.args.motion number c.in-Some.place c.index.result.now c.as_slice.result.now c.receivers-places.result.now c.index_mut.result.now c.take_one.new.receiver (Ok (c.in_ok-parcel.parcel, c.in_ok-parcel.told))
+    c.self.view_is c.self.invariant c.requires.here c.as_slice.ensures.value (c.receivers-places.ensures.value number there) c.index.ensures c.in-Some.ensures c.index_mut.ensures.value c.in_ok-parcel.ensures)

@@ -5,4 +5,4 @@ use Rattle.ic_port.proofs.Keeping.{node_lawful}
 use Rattle.ic_port.proofs.node.Node.lawful.Goals as goal
 
 pub returns : goal.returns
-returns c = subst IsLawful c.self.view_is (node_lawful c.self.inside.session c.self.inside.at c.self.inside.packet (the_view c.self.inside) c.self.invariant)
+returns c = subst IsLawful c.self.view_is (node_lawful (the_view c.self.inside) c.self.invariant)

@@ -2,7 +2,6 @@ use Rattle.std.proofs.Common.{sym, ◌∙◌, refl}
 use Rattle.ic_law.specs.declared.history.HubAsk.TheVariants.{Leave}
 use Rattle.ic_law.specs.declared.history.HubReply.TheVariants.{Left}
 use Rattle.ic_port.specs.contracts.node.Node.{the_view}
-use Rattle.ic_port.specs.Telling.{kept}
 use Rattle.ic_port.proofs.Keeping.{Notes, notes_keep}
 use Rattle.ic_port.proofs.Serving.{called_notes}
 use Rattle.ic_port.proofs.Driving.{stays_none_left, leave_stays, left_keeps}
@@ -10,9 +9,8 @@ use Rattle.ic_port.proofs.node.Node.leave.Goals as goal
 
 refused : (c : goal.Then-is_err) → Notes (the_view c.self.inside) c.leave-answer.new.self c.note.new.entries.items (Leave c.self.inside.query) (Left c.leave-answer.result)
 refused c =
-    called_notes (the_view c.self.inside) c.leave-answer.new.self c.note.new.entries.items c.reserve.new.self.items (Leave c.self.inside.query) (Leave c.self.inside.query) (Left c.leave-answer.result) (kept (Left c.leave-answer.result))
+    called_notes (the_view c.self.inside) c.leave-answer.new.self c.note.new.entries.items c.reserve.new.self.items (Leave c.self.inside.query) (Leave c.self.inside.query) (Left c.leave-answer.result) (Left c.leave-answer.result)
     (record {
-      unbroken = c.if-self.false;
       place = c.leave-answer.ensures.place;
       same = λ memory. cc;
       stands = c.leave-answer.ensures.stands;
@@ -25,9 +23,8 @@ refused c =
 
 notes : (c : goal.After-clear) → Notes (the_view c.self.inside) c.leave-answer.new.self c.note.new.entries.items (Leave c.self.inside.query) (Left c.leave-answer.result)
 notes c =
-    called_notes (the_view c.self.inside) c.leave-answer.new.self c.note.new.entries.items c.reserve.new.self.items (Leave c.self.inside.query) (Leave c.self.inside.query) (Left c.leave-answer.result) (kept (Left c.leave-answer.result))
+    called_notes (the_view c.self.inside) c.leave-answer.new.self c.note.new.entries.items c.reserve.new.self.items (Leave c.self.inside.query) (Leave c.self.inside.query) (Left c.leave-answer.result) (Left c.leave-answer.result)
     (record {
-      unbroken = c.if-self.false;
       place = c.leave-answer.ensures.place;
       same = λ memory. cc;
       stands = c.leave-answer.ensures.stands;
@@ -40,7 +37,7 @@ notes c =
 
 pub invariant_of-self-then-is_err : goal.invariant_of-self-then-is_err
 invariant_of-self-then-is_err c =
-    notes_keep c.self.inside.session c.self.inside.at c.self.inside.packet (the_view c.self.inside) c.leave-answer.new.self c.note.new.entries.items (Leave c.self.inside.query) (Left c.leave-answer.result) c.self.invariant (refused c)
+    notes_keep (the_view c.self.inside) c.leave-answer.new.self c.note.new.entries.items (Leave c.self.inside.query) (Left c.leave-answer.result) c.self.invariant (refused c)
     (stays_none_left c.self.inside.query c.leave-answer.result (sym c.is_err.ensures.value ∙ c.if-is_err.true))
 
 pub returns-then-is_err-clause-ok : goal.returns-then-is_err-clause-ok
@@ -49,4 +46,4 @@ returns-then-is_err-clause-ok c =
 
 pub invariant_of-self-2 : goal.invariant_of-self-2
 invariant_of-self-2 c =
-    left_keeps c.self.inside.session c.self.inside.at c.self.inside.packet (the_view c.self.inside) c.leave-answer.new.self c.note.new.entries.items c.clear.new.self.items c.leave-answer.result c.self.invariant (notes c) c.clear.ensures.items
+    left_keeps (the_view c.self.inside) c.leave-answer.new.self c.note.new.entries.items c.clear.new.self.items c.leave-answer.result c.self.invariant (notes c) c.clear.ensures.items

@@ -7,7 +7,7 @@ use Rattle.ic_hub.specs.Entries.{gave_of}
 use Rattle.ic_port.specs.Noding.{Noding}
 use Rattle.ic_port.specs.Calls.{Works}
 use Rattle.ic_port.specs.contracts.node.Node.{the_view}
-use Rattle.ic_port.proofs.Noting.{gave_memory}
+use Rattle.ic_hub.proofs.Noting.{gave_memory}
 use Rattle.ic_port.proofs.Keeping.{Notes, after, notes_keep, notes_works}
 use Rattle.ic_port.proofs.Keys.{key_of}
 use Rattle.ic_port.proofs.Serving.{called_notes, sends_ours, its_query, finish_same, called_log, put_may}
@@ -18,15 +18,14 @@ key_is c = subst (λ (m : Noding). c.key_to-key.result ≡ key_of m.hub.session 
 
 notes : (c : goal.After-note) → Notes (the_view c.self.inside) c.finish-answer.new.self c.note.new.entries.items (Finish c.key_to-key.result) (gave_of c.finish-answer.result)
 notes c =
-    called_notes (the_view c.self.inside) c.finish-answer.new.self c.note.new.entries.items c.reserve.new.self.items (Finish c.key_to-key.result) (Finish c.key_to-key.result) (gave_of c.finish-answer.result) c.given.result
+    called_notes (the_view c.self.inside) c.finish-answer.new.self c.note.new.entries.items c.reserve.new.self.items (Finish c.key_to-key.result) (Finish c.key_to-key.result) (gave_of c.finish-answer.result) c.gave.result
     (record {
-      unbroken = c.if-self.false;
       place = c.finish-answer.ensures.place;
       same = λ memory. gave_memory _ c.finish-answer.result c.finish-answer.ensures.err memory;
       stands = c.finish-answer.ensures.stands;
       asked_is = refl;
       reserved_is = c.reserve.ensures.items;
-      told_is = c.given.ensures;
+      told_is = c.gave.ensures;
       entries_are = c.note.ensures;
     })
     (sends_ours (the_view c.self.inside) c.key_to-key.result c.args.motion c.args.to (key_is c))
@@ -34,7 +33,7 @@ notes c =
 
 pub invariant_of-self-2 : goal.invariant_of-self-2
 invariant_of-self-2 c =
-    notes_keep c.self.inside.session c.self.inside.at c.self.inside.packet (the_view c.self.inside) c.finish-answer.new.self c.note.new.entries.items (Finish c.key_to-key.result) (gave_of c.finish-answer.result) c.self.invariant (notes c) refl
+    notes_keep (the_view c.self.inside) c.finish-answer.new.self c.note.new.entries.items (Finish c.key_to-key.result) (gave_of c.finish-answer.result) c.self.invariant (notes c) refl
 
 pub returns-clause-steps : goal.returns-clause-steps
 returns-clause-steps c =
@@ -48,4 +47,4 @@ returns-clause-log c =
 
 pub returns-clause-refusals : goal.returns-clause-refusals
 returns-clause-refusals c =
-    put_may c.self.inside.session c.self.inside.at c.self.inside.packet (the_view c.self.inside) c.args.self.now c.key_to-key.result c.args.motion c.args.to c.told_put-told.result c.self.invariant c.self.view_is (key_is c) c.requires.sends c.told_put-told.ensures.refusals
+    put_may (the_view c.self.inside) c.args.self.now c.key_to-key.result c.args.motion c.args.to c.told_put-told.result c.self.invariant c.self.view_is (key_is c) c.requires.sends c.told_put-told.ensures.refusals

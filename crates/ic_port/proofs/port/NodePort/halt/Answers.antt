@@ -7,7 +7,7 @@ use Rattle.ic_hub.specs.Entries.{gave_of}
 use Rattle.ic_port.specs.Noding.{Noding}
 use Rattle.ic_port.specs.Calls.{Works}
 use Rattle.ic_port.specs.contracts.node.Node.{the_view}
-use Rattle.ic_port.proofs.Noting.{gave_memory}
+use Rattle.ic_hub.proofs.Noting.{gave_memory}
 use Rattle.ic_port.proofs.Keeping.{Notes, after, notes_keep, notes_works}
 use Rattle.ic_port.proofs.Keys.{key_of}
 use Rattle.ic_port.proofs.Serving.{called_notes, ends_ours, its_query, halt_same, called_log}
@@ -18,15 +18,14 @@ key_is c = subst (λ (m : Noding). c.key_from-key.result ≡ key_of m.hub.sessio
 
 notes : (c : goal.After-note) → Notes (the_view c.self.inside) c.halt-answer.new.self c.note.new.entries.items (Halt c.key_from-key.result) (gave_of c.halt-answer.result)
 notes c =
-    called_notes (the_view c.self.inside) c.halt-answer.new.self c.note.new.entries.items c.reserve.new.self.items (Halt c.key_from-key.result) (Halt c.key_from-key.result) (gave_of c.halt-answer.result) c.given.result
+    called_notes (the_view c.self.inside) c.halt-answer.new.self c.note.new.entries.items c.reserve.new.self.items (Halt c.key_from-key.result) (Halt c.key_from-key.result) (gave_of c.halt-answer.result) c.gave.result
     (record {
-      unbroken = c.if-self.false;
       place = c.halt-answer.ensures.place;
       same = λ memory. gave_memory _ c.halt-answer.result c.halt-answer.ensures.err memory;
       stands = c.halt-answer.ensures.stands;
       asked_is = refl;
       reserved_is = c.reserve.ensures.items;
-      told_is = c.given.ensures;
+      told_is = c.gave.ensures;
       entries_are = c.note.ensures;
     })
     (ends_ours (the_view c.self.inside) c.key_from-key.result c.args.motion c.args.sender (key_is c))
@@ -34,7 +33,7 @@ notes c =
 
 pub invariant_of-self-2 : goal.invariant_of-self-2
 invariant_of-self-2 c =
-    notes_keep c.self.inside.session c.self.inside.at c.self.inside.packet (the_view c.self.inside) c.halt-answer.new.self c.note.new.entries.items (Halt c.key_from-key.result) (gave_of c.halt-answer.result) c.self.invariant (notes c) refl
+    notes_keep (the_view c.self.inside) c.halt-answer.new.self c.note.new.entries.items (Halt c.key_from-key.result) (gave_of c.halt-answer.result) c.self.invariant (notes c) refl
 
 pub returns-clause-steps : goal.returns-clause-steps
 returns-clause-steps c =

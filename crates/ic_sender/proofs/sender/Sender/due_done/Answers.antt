@@ -23,8 +23,8 @@ wait_longer-requires-clause-tries c =
     subst (AllByRecursion (λ (f : Flight). f.tries ≤ 1000)) (sym c.as_slice.ensures.value)
     (all_by (λ (f : Flight). f.tries ≤ c.self.inside.settings.retries) (λ (f : Flight). f.tries ≤ 1000) (λ f le. omega (arith, le, c.self.invariant.checked.greatest_retries)) c.self.inside.flights.items c.self.invariant.tries)
 
-pub retry_listed-requires : goal.retry_listed-requires
-retry_listed-requires c =
+pub retry_listed-requires-clause-tries : goal.retry_listed-requires-clause-tries
+retry_listed-requires-clause-tries c =
     all_by (λ (f : Flight). f.tries ≤ c.self.inside.settings.retries) (λ (f : Flight). f.tries < 4294967295) (λ f le. omega (arith, le, c.self.invariant.checked.greatest_retries)) c.self.inside.flights.items c.self.invariant.tries
 
 pub invariant_of-self : goal.invariant_of-self
@@ -43,3 +43,6 @@ invariant_of-self c =
       tries = subst (FewTries s.settings.retries) (sym c.retry_listed.ensures) (few_tried s.settings.retries c.args.seqs.now s.flights unspent old.tries);
       asks = old.asks;
     }
+
+pub retry_listed-requires-clause-rises : goal.retry_listed-requires-clause-rises
+retry_listed-requires-clause-rises c = (1, c.requires.increase)
