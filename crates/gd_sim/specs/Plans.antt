@@ -19,7 +19,7 @@ abbrev pub scanned : Tree → Option (List ℕ)
 scanned (Scan name) = Some name
 scanned _ = None
 
--- the name of the table whose rows a plan gathers, where it is a gather without an order over a scan
+-- the name of the table whose rows a plan gathers, if it is a gather without an order over a scan
 abbrev pub gathered : Tree → Option (List ℕ)
 gathered (Gather None child) = scanned child
 gathered _ = None
@@ -50,7 +50,7 @@ abbrev pub feed_named : Judged → Option (List ℕ) → Option Feed
 feed_named j None = None
 feed_named j (Some name) = feed_from j.segments 0 name j.schemas
 
--- what a plan gathers, where it is a gather without an order over the scan of one of its tables
+-- what a plan gathers, if it is a gather without an order over the scan of one of its tables
 abbrev pub feed_of : Judged → Option Feed
 feed_of j = feed_named j (gathered (tree_in j.plan))
 
@@ -61,7 +61,7 @@ before None feeds = None
 before (Some feed) None = None
 before (Some feed) (Some feeds) = Some (feed ∷ feeds)
 
--- what each plan gathers, where each is such a gather
+-- what each plan gathers, if each is such a gather
 abbrev pub feeds_of : List Judged → Option (List Feed)
 feeds_of [] = Some []
 feeds_of (j ∷ js) = before (feed_of j) (feeds_of js)

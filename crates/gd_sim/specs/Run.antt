@@ -54,13 +54,13 @@ HasCause rounds query nodes (Unfinished n) = (n ≡ rounds) × IsUnleft nodes qu
 HasCause rounds query nodes (Spent key seq tries) = IsLast nodes (record { ask = Tick; reply = Ticked (Err (tick.Spent key seq tries)) })
 HasCause rounds query nodes (TooLong key) = IsUsedUp nodes key
 
--- the fault's connection, where it names one, is of the query
+-- the fault's connection, if it names one, is of the query
 abbrev pub IsOfQuery : ℕ → FirstNo → Type 0
 IsOfQuery query (Unfinished n) = Unit {0}
 IsOfQuery query (Spent key seq tries) = key.query ≡ query
 IsOfQuery query (TooLong key) = key.query ≡ query
 
--- the query behind those that are over has the fault; without one all are over
+-- the query after those that are over has the fault; without one all are over
 abbrev pub Ends : (rounds : ℕ) → List Feed → FirstRun → Option FirstNo → Type 0
 Ends rounds feeds run None = length run.rows ≡ length feeds
 Ends rounds feeds run (Some refusal) =

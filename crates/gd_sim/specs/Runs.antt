@@ -1,4 +1,4 @@
--- How the queries of a session go, one behind the other.
+-- How the queries of a session go, one after another.
 use Rattle.std.specs.Prelude.{◌≡◌, ℕ, ◌+◌, ◌<◌, ◌≤◌, ℤ, List, length, Option, Some, None, Result, Ok, Err, slice_get}
 use Rattle.ic_base.specs.declared.settings.Settings.{Settings}
 use Rattle.ic_row.specs.declared.value.Value.{Value}
@@ -31,7 +31,7 @@ query_fault sim.Memory = query_no.Memory
 
 -- ---- rows
 
--- where the worker gathered, these are its rows
+-- if the worker gathered, these are its rows
 abbrev pub GivesRows : Worker → List (List Value) → Type 0
 GivesRows worker rows = (t : Gathering) → worker ≡ Takes t → rows ≡ t.rows
 
@@ -102,7 +102,7 @@ pub record Stands (session segments : ℕ) (settings : Settings) (loaded : List 
   pub over : AreOver session segments settings loaded feeds s lists
   pub serve : AllServe (length lists) s.stations.items
 
--- One query more is over; or the one behind those that are over isn't, for this cause.
+-- One query more is over; or the one after those that are over isn't, for this cause.
 abbrev pub GoesOn : (session segments rounds : ℕ) → Settings → List Spread → List Feed → (new : Sim) → (lists more : List (List (List Value))) → Option FirstNo → Type 0
 GoesOn session segments rounds settings loaded feeds new lists more None = Stands session segments settings loaded feeds new more × (length more ≡ length lists + 1)
 GoesOn session segments rounds settings loaded feeds new lists more (Some fault) =

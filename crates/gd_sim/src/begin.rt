@@ -130,7 +130,7 @@ impl Station {
         })
     }
 
-    /// The query begins here. A later one than the last is never refused but for want of memory.
+    /// The query begins here. A later one than the last is refused only if memory runs out.
     fn begin(&mut self, alloc: Global, beginning: &Beginning) -> Result<(), SimNo>
         requires beginning { IsBeginning beginning.now }
         requires can { CanBeginAt beginning.now self.old }

@@ -15,7 +15,7 @@ pub(crate) enum SimNo {
     Spent { key: ConnKey, seq: u32, tries: u32 },
     /// The query's: the numbers of packets of this connection are used up.
     TooLong(ConnKey),
-    /// Nobody's: want of memory.
+    /// Nobody's: out of memory.
     Memory,
 }
 

@@ -1,6 +1,6 @@
 // What a query gathers.
 
-/// The rows of one table, sent by the segments from 0 up to but without a number: one alone where the table stands at each
+/// The rows of one table, sent by the segments from 0 up to but without a number: one alone if the table is whole at each
 /// segment, else all.
 #[derive(Clone, Copy, Debug, PartialEq, Eq)]
 pub struct Feed {

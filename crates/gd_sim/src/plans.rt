@@ -71,7 +71,7 @@ fn scanned(node: &Node) -> Option<&Text>
     }
 }
 
-/// The name of the table whose rows a plan gathers, where the plan is a gather without an order over a scan.
+/// The name of the table whose rows a plan gathers, if the plan is a gather without an order over a scan.
 pub fn gathered(root: &Node) -> Option<&Text>
     ensures { option_map (λ name. name.now) result ≡ spec.gathered (tree_of root.now) }
 {
@@ -113,7 +113,7 @@ fn feed_named(segments: u32, name: &Text, schemas: &[Schema]) -> Option<Feed>
     None
 }
 
-/// What a plan gathers, where it is a gather without an order over the scan of one of its tables.
+/// What a plan gathers, if it is a gather without an order over the scan of one of its tables.
 pub fn feed_of(plan: &SoundPlan) -> Option<Feed>
     requires { length plan.now.schemas ≤ 64 }
     ensures { result ≡ spec.feed_of plan.now }
@@ -176,7 +176,7 @@ fn sure_feeds(
     Ok(feeds)
 }
 
-/// Runs the queries of a session one behind the other, each for at most so many rounds. All plans are gathers without an
+/// Runs the queries of a session one after another, each for at most so many rounds. All plans are gathers without an
 /// order over scans, judged for these segments and settings, and the rows fit their tables.
 pub fn first_run(
     alloc: Global,

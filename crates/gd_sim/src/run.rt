@@ -28,7 +28,7 @@ use std::mem;
 pub enum FirstNo {
     /// After so many rounds a worker wasn't done, or a node hadn't left the query.
     Unfinished(u64),
-    /// The network's: a packet of this number, or the status query behind it, was sent again so often without an answer.
+    /// The network's: a packet of this number, or the status query after it, was sent again so often without an answer.
     Spent { key: ConnKey, seq: u32, tries: u32 },
     /// The query's: the numbers of packets of this connection are used up.
     TooLong(ConnKey),
@@ -73,14 +73,14 @@ pub struct FirstRun {
     pub rows: RowLists,
     /// What each node was asked and replied, the dispatcher's first.
     pub histories: Histories,
-    /// Why the query behind these isn't over, if one isn't.
+    /// Why the query after these isn't over, if one isn't.
     pub fault: Option<FirstNo>,
 }
 
 /// Why one query isn't over.
 pub(crate) enum QueryNo {
     Fault(FirstNo),
-    /// Nobody's: want of memory.
+    /// Nobody's: out of memory.
     Memory,
 }
 
@@ -139,8 +139,8 @@ impl Sim {
         Ok(take_rows(alloc, &mut self.stations[0].worker))
     }
 
-    /// Runs the query of a feed behind those that are over with these rows, and puts its rows behind these. Tells why it
-    /// isn't over, where it isn't.
+    /// Runs the query of a feed after those that are over with these rows, and puts its rows after these. Tells why it
+    /// isn't over, if it isn't.
     fn run_next(
         &mut self,
         alloc: Global,
@@ -176,7 +176,7 @@ impl Sim {
         }
     }
 
-    /// Runs the queries of all feeds, and puts their rows in order. Tells why one isn't over, where one isn't.
+    /// Runs the queries of all feeds, and puts their rows in order. Tells why one isn't over, if one isn't.
     fn run_all(
         &mut self,
         alloc: Global,
@@ -223,13 +223,13 @@ impl Sim {
     }
 }
 
-/// Runs the queries of a session one behind the other, each for at most so many rounds, over a network that loses the
+/// Runs the queries of a session one after another, each for at most so many rounds, over a network that loses the
 /// sends with the numbers of `drops`. The first fault ends the run.
 ///
 /// A round has four steps. Each worker takes turns until it waits or is done, 256 at most, those that send by segment
 /// and the dispatcher's last. Each node, the dispatcher's first, receives until nothing is kept for it, 1024 datagrams at
 /// most. The clock of each node for which nothing was under way at its last receive goes on. Each node whose worker is done
-/// leaves the query, where each of its connections is over. A query is over when every node has left it.
+/// leaves the query, if each of its connections is over. A query is over when every node has left it.
 ///
 /// Keeps every entry of every node; the bytes of a datagram are kept once.
 pub fn run_feeds(

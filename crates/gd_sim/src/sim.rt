@@ -41,7 +41,7 @@ fn moved(turned: Result<Turned, SimNo>) -> Result<bool, SimNo>
 }
 
 impl Sim {
-    /// Sends what the station at this place emitted with its entry behind so many.
+    /// Sends what the station at this place emitted with its entry after so many.
     fn send_behind(&mut self, place: usize, seen: usize) -> Result<(), AllocError>
         requires here { place < length self.old.stations.items }
         ensures stations { self.new.stations ≡ self.old.stations }
@@ -100,7 +100,7 @@ impl Sim {
         }
     }
 
-    /// The clock of the station at this place goes on, where nothing was under way at its last receive.
+    /// The clock of the station at this place goes on, if nothing was under way at its last receive.
     pub(crate) fn tick(&mut self, alloc: Global, place: usize) -> Result<(), SimNo>
         requires here { place < length self.old.stations.items }
         ensures count { length self.new.stations.items ≡ length self.old.stations.items }
@@ -117,7 +117,7 @@ impl Sim {
         ticked
     }
 
-    /// The station at this place leaves the query, where it may.
+    /// The station at this place leaves the query, if it may.
     pub(crate) fn leave(&mut self, place: usize) -> Result<(), AllocError>
         requires here { place < length self.old.stations.items }
         ensures count { length self.new.stations.items ≡ length self.old.stations.items }

@@ -39,7 +39,7 @@ impl Worker {
     }
 }
 
-/// A turn of a segment that sends. A run ends at the first refusal, so none comes behind one.
+/// A turn of a segment that sends. A run ends at the first refusal, so none comes after one.
 fn send_on(
     alloc: Global,
     scanner: &mut Scanner,
@@ -62,7 +62,7 @@ fn send_on(
     }
 }
 
-/// A turn of the dispatcher. A run ends at the first refusal, so none comes behind one.
+/// A turn of the dispatcher. A run ends at the first refusal, so none comes after one.
 fn take_on(alloc: Global, gatherer: &mut Gatherer, node: &mut Node) -> Result<Turned, SimNo>
     requires { HearsSome node.old.ends gatherer.old.motion }
     ensures works { Works node.old node.new }
@@ -96,7 +96,7 @@ pub(crate) struct Station {
 }
 
 impl Station {
-    /// One turn of its worker, which is handed the rows of its segment. Where it has left the query its worker is done.
+    /// One turn of its worker, which is handed the rows of its segment. If it has left the query its worker is done.
     pub(crate) fn turn(&mut self, alloc: Global, rows: &[Row]) -> Result<Turned, SimNo>
         requires { CanTurn rows.now self.old }
         ensures keeps { TurnKeeps rows.now self.old self.new }
@@ -134,7 +134,7 @@ impl Station {
         }
     }
 
-    /// Leaves the query, where it hasn't yet, its worker is done and each of its connections is over.
+    /// Leaves the query, if it hasn't yet, its worker is done and each of its connections is over.
     pub(crate) fn leave(&mut self) -> Result<(), AllocError>
         ensures keeps { Keeps self.old self.new }
         ensures acts { Acts self.old self.new }

@@ -27,7 +27,7 @@ pub struct Tally {
     pub sent: u128,
     /// Rows in the parcels that were taken.
     pub taken: u128,
-    /// The greatest number of a packet of rows that was emitted, from 1; 0 where none was.
+    /// The greatest number of a packet of rows that was emitted, from 1; 0 if none was.
     pub packets: u32,
     /// Emissions of such packets beyond that.
     pub resent: u128,
@@ -139,7 +139,7 @@ fn taken_of<'e>(entry: &'e Entry, key: &ConnKey) -> Option<&'e Parcel>
     }
 }
 
-/// The connection that a header speaks of, where its content ids are segments.
+/// The connection that a header speaks of, if its content ids are segments.
 fn key_in(head: &Header) -> Option<ConnKey>
     ensures some { IfSome result (λ key. key ≡ key_of head.now) }
     ensures none { IfNone result ((key : ConnKey) → IsSegment key.from → IsSegment key.to → key_of head.now ≡ key → ⊥) }

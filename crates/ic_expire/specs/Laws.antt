@@ -20,7 +20,7 @@ abbrev pub DueGives : Type 0
 DueGives = (held : List Item) (now : ℕ) (p : Due)
     → Contains (dues_of now held) p ↔ ((due : ℕ) × Contains held (record { due = due; conn = p.conn; seq = p.seq }) × (due ≤ now))
 
--- a question gives a packet once, and it isn't held afterwards, where a packet waits once
+-- a question gives a packet once, and it isn't held afterwards, if a packet waits once
 abbrev pub DueTakes : Type 0
 DueTakes = (held : List Item) (now : ℕ) → EachLater AreOthers held
     → AllPairs (λ p q. p ≢ q) (dues_of now held)

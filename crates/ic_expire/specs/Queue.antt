@@ -16,7 +16,7 @@ EachLater R (x ∷ xs) = All (R x) xs × EachLater R xs
 abbrev pub without : (Item → Bool) → List Item → List Item
 without test held = filter (λ x. not (test x)) held
 
--- the held items and one more, behind those that are before it and in front of the others
+-- the held items and one more, after those that are before it and in front of the others
 abbrev pub with_item : Item → List Item → List Item
 with_item x held = filter (λ y. is_lt (item_cmp y x)) held ++ x ∷ without (λ y. is_lt (item_cmp y x)) held
 
@@ -42,7 +42,7 @@ pub record Queue : Type 0 where
   -- how many items fit
   pub room : ℕ
 
--- Each item is before the later ones, no packet waits twice, each is due from the last question to 64 ticks behind it,
+-- Each item is before the later ones, no packet waits twice, each is due from the last question to 64 ticks after it,
 -- and no more wait than fit.
 pub record IsQueue (q : Queue) : Type 0 where
   pub sorted : EachLater IsBefore q.held

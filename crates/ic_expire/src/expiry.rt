@@ -33,7 +33,7 @@ impl Model for Expiry {
     ghost invariant = { λ e. IsQueue (record { held = e.items.items; asked = e.asked; room = e.room }) × (e.room ≤ vec_capacity e.items) };
 }
 
-/// Where an item belongs among items in order.
+/// The place of an item among items in order.
 fn place_of(items: &[Item], item: &Item) -> usize
     requires { EachLater IsBefore items.now }
     ensures within { result ≤ length items.now }
@@ -53,7 +53,7 @@ fn count_due(items: &[Item], now: u64) -> usize
     items.partition_point(|held| held.due <= now)
 }
 
-/// Inserts an item where there is room.
+/// Inserts an item if there is room.
 fn insert(items: &mut Vec<Item>, place: usize, item: Item)
     requires place { place ≤ vec_len items.old }
     requires room { vec_len items.old < vec_capacity items.old }
@@ -104,7 +104,7 @@ impl Expiry {
     }
 
     /// A packet was emitted, and waits until tick `due`: from the last question's tick, 0 before the first, to 64 ticks
-    /// behind it. Takes no memory, and moves what is due later.
+    /// after it. Takes no memory, and moves what is due later.
     pub fn put(&mut self, conn: u32, seq: u32, due: u64)
         requires room { length self.old.held < self.old.room }
         requires absent { IsHeld conn seq self.old.held → ⊥ }
@@ -136,7 +136,7 @@ impl Expiry {
     }
 
     /// Looks for what is due by tick `now`: by due tick, then connection, then number. All of it waits on. Allocates
-    /// once, and not at all where nothing is due.
+    /// once, and not at all if nothing is due.
     pub fn due_at(&self, alloc: Global, now: u64) -> Result<Dues, AllocError>
         ensures ok { IfOk result (λ dues. dues ≡ dues_of now self.now.held) }
         ensures stands { IsQueue self.now }
@@ -158,7 +158,7 @@ impl Expiry {
     }
 
     /// Asks at tick `now`, the last question's or a later one, for what is due by then, and takes it out: by due tick,
-    /// then connection, then number. Allocates once, and not at all where nothing is due.
+    /// then connection, then number. Allocates once, and not at all if nothing is due.
     pub fn due(&mut self, alloc: Global, now: u64) -> Result<Dues, AllocError>
         requires { self.old.asked ≤ now }
         ensures ok { IfOk result (λ dues. dues ≡ dues_of now self.old.held) }

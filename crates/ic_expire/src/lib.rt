@@ -3,7 +3,7 @@
 //!
 //! Each sending connection has an [`Expiry`]. A sender `put`s each packet that it emits, and `cut`s those that an
 //! answer frees. Each tick asks for what is `due`: these packets are taken out, and whoever emits them again `put`s
-//! them again. Where a tick may still be refused it first looks, with `due_at`, and then lets the time `pass`. Ticks are
+//! them again. If a tick may still be refused it first looks, with `due_at`, and then lets the time `pass`. Ticks are
 //! the caller's count, from 0.
 //!
 //! Below: std alone. Above: senders and the hub.

@@ -19,11 +19,11 @@ pub record IsBetween (end : ConnEnd) : Type 0 where
   pub from : IsSegment end.key.from
   pub to : IsSegment end.key.to
 
--- where it sends, its connection as it begins at this tick stands for each history in which it isn't there yet
+-- if it sends, its connection as it begins at this tick stands for each history in which it isn't there yet
 abbrev pub SendsFirst : Settings → ℕ → ConnEnd → Type 0
 SendsFirst settings tick end = end.sending ≡ true → StandsFirst end tick (begun_at end settings tick)
 
--- where it receives, its connection as it begins stands for each history in which nothing concerns it
+-- if it receives, its connection as it begins stands for each history in which nothing concerns it
 abbrev pub ReceivesFirst : Settings → ConnEnd → Type 0
 ReceivesFirst settings end = end.sending ≡ false → (h : List Entry) → IsUntouched end h → Stands settings (begun end settings) h
 

@@ -39,7 +39,7 @@ CountsDrop old new (Dropped cause) = new ≡ record old { dropped = min (old.dro
 
 -- ---- refusals of connections, as the hub's
 
--- what a put is never answered stands for want of memory
+-- what a put is never answered becomes out of memory
 abbrev pub put_no : SendNo → HubNo
 put_no send.Full = no.Full
 put_no send.Stopped = no.Stopped
@@ -76,8 +76,8 @@ pub record MovesSender (place : ℕ) (Is : ConnKey → Entry → Type 0) (l afte
 abbrev pub FitsAll : Living → ℕ → Type 0
 FitsAll l length = AllByRecursion (λ (o : TimedState). length + 68 ≤ o.sending.settings.packet) l.senders
 
--- What a put on the sender at this place, or its finish, does: behind the end of stream nothing; else what the connection
--- does, and where it refuses nothing. What it emits has the form of its packets.
+-- What a put on the sender at this place, or its finish, does: after the end of stream nothing; else what the connection
+-- does, and if it refuses nothing. What it emits has the form of its packets.
 pub data PutsOn (place : ℕ) (Is : ConnKey → Result (List Datagram) SendNo → Entry → Type 0) (l after : Living) (result : Result (List Datagram) HubNo) : Type 0 where
   Behind : (old : TimedState) → slice_get l.senders place ≡ Some old → old.sending.finished ≡ true → result ≡ Err no.Memory → after ≡ l → PutsOn place Is l after result
   Answered : (answer : Result (List Datagram) SendNo) → result ≡ put_answer answer → (moves : MovesSender place (λ c e. Is c answer e) l after)

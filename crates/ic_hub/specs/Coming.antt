@@ -90,12 +90,12 @@ pub record IsAddressed (at : ℤ) (d : Datagram) (head : Header) : Type 0 where
   pub here : d.to ≡ at
   pub directed : IsDirected (goes_forth head.flags) d (key_of head)
 
--- the connection that a header names, where its content ids are segments
+-- the connection that a header names, if its content ids are segments
 pub data NamesKey (head : Header) (key : Option ConnKey) : Type 0 where
   NamesNone : (IsSegment head.src_content × IsSegment head.dst_content → ⊥) → key ≡ None → NamesKey head key
   Names : IsSegment head.src_content → IsSegment head.dst_content → key ≡ Some (key_of head) → NamesKey head key
 
--- its connection, where it does
+-- its connection, if it does
 pub data Addresses (at : ℤ) (d : Datagram) (head : Header) (key : Option ConnKey) : Type 0 where
   NoSegment : (IsSegment head.src_content × IsSegment head.dst_content → ⊥) → key ≡ None → Addresses at d head key
   NotHere : d.to ≢ at → key ≡ None → Addresses at d head key
@@ -108,7 +108,7 @@ pub data IsOfNone (s : Hubbing) (d : Datagram) (head : Header) : Type 0 where
   OtherSession : head.session ≢ s.session → IsOfNone s d head
   NoKey : (i : ℕ) (l : Living) → slice_get s.live i ≡ Some l → l.number ≡ head.query → (Contains (keys_of l.ends) (key_of head) → ⊥) → IsOfNone s d head
 
--- the answer to what asks of a query that isn't live: Stop where it has ended
+-- the answer to what asks of a query that isn't live: Stop if it has ended
 abbrev pub turns : Bool → Flags
 turns true = Stop
 turns false = Nak
@@ -149,7 +149,7 @@ pub data Arrives (s : Hubbing) (d : Datagram) (result : Became) (after : Hubbing
   Unread : (fault : HeaderFault) → read_header d.bytes ≡ Err fault → result ≡ Ok (Dropped (cause.Header fault), []) → after ≡ s → Arrives s d result after
   Read : (head : Header) (body : List ℕ) → read_header d.bytes ≡ Ok (head, body) → Comes s d head body result after → Arrives s d result after
 
--- the count goes up where it was dropped
+-- the count goes up if it was dropped
 abbrev pub counted : Arrived → Hubbing → Hubbing
 counted Handled s = s
 counted (Dropped why) s = record s { dropped = min (s.dropped + 1) (2 ^ 64 - 1) }

@@ -47,7 +47,7 @@ pub record HasSide (sending : Bool) (c : ConnKey) (h : List Entry) : Type 0 wher
   pub side : end.sending ≡ sending
   pub here : IsHere end h
 
--- the counts of the connection's end of this side; nothing exactly where no live query has it
+-- the counts of the connection's end of this side; nothing exactly if no live query has it
 abbrev pub TellsCounts : Bool → ConnKey → List Entry → Option Counts → Type 0
 TellsCounts sending c h (Some n) = HasSide sending c h × AreCounts sending c h n
 TellsCounts sending c h None = HasSide sending c h → ⊥
@@ -83,7 +83,7 @@ pub record CountsReceiver (s : Hubbing) (key : ConnKey) (n : Counts) : Type 0 wh
   pub receiver : ReceiverIs s key query place
   pub count : IsCountOfReceiver receiver.receiver n
 
--- nothing where no live query has an end of this key with this side
+-- nothing if no live query has an end of this key with this side
 abbrev pub CountsFound : Bool → Hubbing → ConnKey → Option Counts → Type 0
 CountsFound true s key (Some n) = CountsSender s key n
 CountsFound false s key (Some n) = CountsReceiver s key n

@@ -19,7 +19,7 @@ use Rattle.ic_law.specs.declared.history.Unclear.{Unclear}
 use Rattle.ic_law.specs.declared.history.LeaveNo.{LeaveNo}
 use Rattle.ic_law.specs.declared.history.Entry.{Entry}
 
--- ---- replies: want of memory is the one variant Memory
+-- ---- replies: out of memory is the one variant Memory
 
 abbrev pub begun_of : Result (Unit {0}) BeginNo → HubReply
 begun_of (Ok done) = Begun (Ok done)

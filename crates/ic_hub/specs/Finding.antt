@@ -16,7 +16,7 @@ abbrev pub IsNotLive : Hubbing → ℕ → Type 0
 IsNotLive s query = (i : ℕ) (l : Living) → slice_get s.live i ≡ Some l → l.number ≢ query
 
 -- What a hub says of a connection: of another session, of a live query without it, of a query that has ended, of one that
--- hasn't begun, or where its ends stand.
+-- hasn't begun, or the places of its ends.
 pub data IsFound (s : Hubbing) (key : ConnKey) (found : Found) : Type 0 where
   OfOther : key.session ≢ s.session → found ≡ Foreign → IsFound s key found
   NoSuchKey : key.session ≡ s.session → (i : ℕ) (l : Living) → slice_get s.live i ≡ Some l → l.number ≡ key.query → (Contains (keys_of l.ends) key → ⊥) → found ≡ Foreign → IsFound s key found

@@ -22,7 +22,7 @@ StaysArmed =
     (s : Hubbing) (h : List Entry) → Stands s h → (q i : ℕ) (l : Living) (o : TimedState) → slice_get s.live q ≡ Some l → slice_get l.senders i ≡ Some o
     → IsArmed o.sending.settings o.sending.end.key h (dues_held o.sending.conn o.held) (query_at o.sending.asked)
 
--- a query is live in a hub where it is in the history
+-- a query is live in a hub exactly if it is in the history
 abbrev pub LiveTells : Type 0
 LiveTells = (s : Hubbing) (h : List Entry) (query : ℕ) → Stands s h → IsLiveQuery query h ↔ IsLiveIn s query
 

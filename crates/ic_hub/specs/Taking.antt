@@ -21,8 +21,8 @@ use Rattle.ic_hub.specs.Hubbing.{Living}
 abbrev pub IsOpen : Receiving → Type 0
 IsOpen r = (settings : Settings) (h : List Entry) → Stands settings r h → IsEnded r.end.key h → ⊥
 
--- What a take of one receiver does. Refused, it leaves the receiver: for want of memory, where the next packet isn't there,
--- or where nothing more is to be taken. Else the receiver hands its next parcel over.
+-- What a take of one receiver does. Refused, it leaves the receiver: if memory runs out, if the next packet isn't there,
+-- or if nothing more is to be taken. Else the receiver hands its next parcel over.
 pub data Takes (old new : Receiving) (result : Result (Parcel × List Datagram) HubNo) : Type 0 where
   NoRoom : result ≡ Err no.Memory → new ≡ old → Takes old new result
   Waits : result ≡ Err no.Empty → new ≡ old → IsEmpty old → StandsOn old new (IsRefusing old.end.key no.Empty) → Takes old new result
@@ -30,7 +30,7 @@ pub data Takes (old new : Receiving) (result : Result (Parcel × List Datagram) 
   Hands : (parcel : Parcel) (d : Datagram) → result ≡ Ok (parcel, d ∷ []) → HandsOver old parcel d new → StandsOn old new (IsTaking old.end.key parcel (d ∷ []))
       → TakesNow old parcel d → Takes old new result
 
--- what a halt of one receiver does: nothing for want of memory
+-- what a halt of one receiver does: nothing if memory runs out
 pub data HaltsOne (old new : Receiving) (result : Result (List Datagram) HubNo) : Type 0 where
   NoRoomToHalt : result ≡ Err no.Memory → new ≡ old → HaltsOne old new result
   HaltsIt : (told : Option Datagram) → result ≡ Ok (list_of told) → Halts old told new → StandsOn old new (IsHalting old.end.key told) → HaltsOne old new result
@@ -55,7 +55,7 @@ HaltsAt place l after result = AtReceiver (λ old new. HaltsOne old new result) 
 
 -- ---- the first of a motion in cyclic order
 
--- Behind the segment served last the greater ones come first, and then the others, each by number: who comes first has the
+-- After the segment served last the greater ones come first, and then the others, each by number: who comes first has the
 -- least of these.
 abbrev pub rank_of : Option ℤ → ℤ → ℤ
 rank_of None from = from
@@ -98,12 +98,12 @@ pub data Refuses (receivers : List Receiving) (places : List ℕ) (why : HubNo) 
   AllDone : ((place : ℕ) (r : Receiving) → Contains places place → slice_get receivers place ≡ Some r → TakesNoMore r) → why ≡ no.Ended → Refuses receivers places why
   OneOpen : (place : ℕ) (r : Receiving) → Contains places place → slice_get receivers place ≡ Some r → IsOpen r → why ≡ no.Empty → Refuses receivers places why
 
--- the segments served last, where this is the answer to a take of any of the motion at this place
+-- the segments served last, if this is the answer to a take of any of the motion at this place
 abbrev pub served_by : List (Option ℤ) → ℕ → Result (Parcel × List Datagram) HubNo → List (Option ℤ)
 served_by served motion (Ok r) = slice_set served motion (Some r.0.from)
 served_by served motion (Err why) = served
 
--- What a take of any sender of a motion does, by its place and its number. It is refused where none of them is ready, and
+-- What a take of any sender of a motion does, by its place and its number. It is refused if none of them is ready, and
 -- else it is a take of the first in cyclic order, which is served last then.
 pub data TakesAny (motion number : ℕ) (l after : Living) (result : Result (Parcel × List Datagram) HubNo) : Type 0 where
   Nobody : (why : HubNo) → NobodyReady l.receivers (receivers_of l.ends number) → Refuses l.receivers (receivers_of l.ends number) why → result ≡ Err why → after ≡ l → TakesAny motion number l after result

@@ -33,7 +33,7 @@ pub data RefusedFor (GivesUp : Sending → ℕ → List Entry → Type 0) (o : T
   GivenUp : (seq : ℕ) → refusal ≡ no.Spent o.sending.end.key seq o.sending.settings.retries → ((h : List Entry) → SenderStands o h → GivesUp o.sending seq h) → RefusedFor GivesUp o refusal
   Roomless : refusal ≡ no.Memory → RefusedFor GivesUp o refusal
 
--- what a look is never refused for stands for want of memory
+-- what a look is never refused for becomes out of memory
 abbrev pub tick_no : SendNo → TickNo
 tick_no send.Full = no.Memory
 tick_no send.Stopped = no.Memory
@@ -42,7 +42,7 @@ tick_no (send.Spent key seq tries) = no.Spent key seq tries
 tick_no send.Stray = no.Memory
 tick_no send.Memory = no.Memory
 
--- once a tick is over, it is the same end, and stands for each history with that tick, where the tick emits what was due of it
+-- once a tick is over, it is the same end, and stands for each history with that tick, if the tick emits what was due of it
 pub record Passes (o : TimedState) : Type 0 where
   pub end : SameEnd o (ticking o)
   pub stands : StandsNext o (ticking o) (IsTicking o.sending.end.key (datagrams_due o ++ queries_due o))
@@ -72,7 +72,7 @@ pub record MayTick (l : Living) : Type 0 where
   pub packets : AllByRecursion MayResend l.senders
   pub queries : AllByRecursion MayAsk l.senders
 
--- packets come first; only where none of any connection is given up a status query is what refuses the tick
+-- packets come first; only if none of any connection is given up a status query is what refuses the tick
 pub data RefusedIn (l : Living) (refusal : TickNo) : Type 0 where
   OfPacket : RefusedFirst MayResend (RefusedFor GivesPacketUp) l.senders refusal → RefusedIn l refusal
   OfQuery : AllByRecursion MayResend l.senders → RefusedFirst MayAsk (RefusedFor GivesQueryUp) l.senders refusal → RefusedIn l refusal

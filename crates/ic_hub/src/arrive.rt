@@ -44,7 +44,7 @@ fn is_directed(datagram: &Datagram, key: &ConnKey, forth: bool) -> bool
     }
 }
 
-/// The connection that a header speaks of, where its content ids are segments.
+/// The connection that a header speaks of, if its content ids are segments.
 fn key_in(head: &Header) -> Option<ConnKey>
     ensures { NamesKey head.now result }
 {
@@ -76,7 +76,7 @@ fn turns(ended: bool) -> Flags
     if ended { Flags::Stop } else { Flags::Nak }
 }
 
-/// An answer where there is no connection, to the number that a header has.
+/// An answer if there is no connection, to the number that a header has.
 fn turned(
     alloc: Global,
     at: SegId,

@@ -27,7 +27,7 @@ fn named(end: &ConnEnd)
     let _to = end.key.to.number();
 }
 
-/// The connection of an end is put behind others, where it sends.
+/// The connection of an end is put after others, if it sends.
 fn add_sender(
     alloc: Global,
     senders: &mut Vec<TimedSender>,
@@ -50,7 +50,7 @@ fn add_sender(
     Ok(())
 }
 
-/// The connection of an end is put behind others, where it receives.
+/// The connection of an end is put after others, if it receives.
 fn add_receiver(
     alloc: Global,
     receivers: &mut Vec<Receiver>,
@@ -117,7 +117,7 @@ fn unserved(alloc: Global, motions: usize) -> Result<Vec<Option<SegId>>, AllocEr
     Ok(served)
 }
 
-/// Where a query of this number belongs among live ones, whose numbers ascend.
+/// The place of a query of this number among live ones, whose numbers ascend.
 fn place_for(live: &[Query], number: u32) -> usize
     requires { Ascend live.now }
     ensures within { result ≤ length live.now }
@@ -127,7 +127,7 @@ fn place_for(live: &[Query], number: u32) -> usize
     live.partition_point(|query| query.number < number)
 }
 
-/// Inserts a query where there is room.
+/// Inserts a query if there is room.
 fn insert(live: &mut Vec<Query>, place: usize, query: Query)
     requires place { place ≤ vec_len live.old }
     requires room { vec_len live.old < vec_capacity live.old }

@@ -72,7 +72,7 @@ impl Hub {
         Some(self.live[query].taken(place))
     }
 
-    /// What one end of a connection counts. `None` exactly where no live query has the connection here with that side.
+    /// What one end of a connection counts. `None` exactly if no live query has the connection here with that side.
     /// Looks the connection up once.
     pub fn counts(&self, key: &ConnKey, sending: bool) -> Option<Counts>
         ensures found { CountsFound sending self.now key.now result }

@@ -1,4 +1,4 @@
-// Where a connection stands.
+// The place of a connection.
 ghost use Rattle.std.specs.Prelude.{◌≡◌, ◌↔◌, None, Some, ◌==◌, position, IsTrue};
 ghost use Rattle.ic_hub.specs.Hubbing.{Living};
 ghost use Rattle.ic_hub.specs.Calls.{IsLiveIn};
@@ -54,7 +54,7 @@ impl Hub {
         }
     }
 
-    /// Where the sending end of a connection stands: its query's place and its own there.
+    /// The place of the sending end of a connection: its query's place and its own there.
     pub(crate) fn sender_of(&self, key: &ConnKey) -> Option<(usize, usize)>
         ensures { FindsSender self.now key.now result }
     {
@@ -68,7 +68,7 @@ impl Hub {
         }
     }
 
-    /// Where the receiving end of a connection stands.
+    /// The place of the receiving end of a connection.
     pub(crate) fn receiver_of(&self, key: &ConnKey) -> Option<(usize, usize)>
         ensures { FindsReceiver self.now key.now result }
     {

@@ -6,18 +6,18 @@ pub fn keeps_law()
     ensures { KeepsLaw }
 {}
 
-/// Each packet on its way is due soon, and a status query is where nothing is and a packet is unsent, on each connection
+/// Each packet on its way is due soon; if none is and a packet is unsent, a status query is, on each connection
 /// that is sent on here.
 pub fn stays_armed()
     ensures { StaysArmed }
 {}
 
-/// A query is live in a hub exactly where it is in the history.
+/// A query is live in a hub exactly if it is in the history.
 pub fn live_tells()
     ensures { LiveTells }
 {}
 
-/// A query is live with these ends in a hub exactly where it is in the history.
+/// A query is live with these ends in a hub exactly if it is in the history.
 pub fn ends_tell()
     ensures { EndsTell }
 {}

@@ -9,7 +9,7 @@
 //! of `replies`, and its entries by `note`.
 //!
 //! Read first: `specs/Standing.antt`, which histories a hub stands for; then `specs/Hubbing.antt`, what it is. Below:
-//! `ic_conntab`, which finds a query's connections, `ic_conntab`, which says where they stand, `ic_timed_sender` and
+//! `ic_conntab`, which finds a query's connections and their ends, `ic_timed_sender` and
 //! `ic_receiver`, which are they, and `ic_hub_laws`, why what each of them keeps is the law of the hub.
 #![tactic(auto)]
 

@@ -17,7 +17,7 @@ use ic_law::HubNo;
 use std::alloc::Global;
 
 impl Query {
-    /// Puts a chunk on the sender at this place. Behind the end of stream nothing is put, and the answer is `Memory`.
+    /// Puts a chunk on the sender at this place. After the end of stream nothing is put, and the answer is `Memory`.
     fn put(&mut self, alloc: Global, place: usize, chunk: &[u8]) -> Result<Datagrams, HubNo>
         requires here { place < length self.old.senders }
         requires least { 4 ≤ length chunk.now }

@@ -9,7 +9,7 @@ ghost use Rattle.ic_hub.specs.Putting.{IsTuple};
 use ic_base::Settings;
 use ic_chunk::ChunkKind;
 
-/// The kind of a number, where chunks of that kind are put.
+/// The kind of a number, if chunks of that kind are put.
 fn kind_of(number: u8) -> Option<ChunkKind>
     ensures { IfSome result (λ kind. kind ≢ EndOfStream) }
 {

@@ -9,7 +9,7 @@ use std::marker::Model;
 #[derive(Drop)]
 pub(crate) struct Query {
     pub(crate) number: u32,
-    /// Its ends, and where their connections stand below.
+    /// Its ends, and the places of their connections below.
     pub(crate) places: Places,
     /// The connections of the sending ends, in their order.
     pub(crate) senders: Vec<TimedSender>,

@@ -7,7 +7,7 @@ use ic_law::HubNo;
 use ic_receiver::TakeNo;
 use ic_sender::SendNo;
 
-/// Why a put is refused. What a put is never answered stands for want of memory.
+/// Why a put is refused. What a put is never answered becomes out of memory.
 fn put_no(no: SendNo) -> HubNo
     ensures { result ≡ put_no no }
 {

@@ -26,7 +26,7 @@ struct Ranked {
 /// How many segments there are, -1..=63: any number less this is below every number.
 const SEGMENTS: i32 = 65;
 
-/// Who comes first in cyclic order behind the segment served last has the least rank.
+/// Who comes first in cyclic order after the segment served last has the least rank.
 fn rank(last: Option<SegId>, from: SegId) -> i32
     ensures { result ≡ rank_of last from }
 {
@@ -37,7 +37,7 @@ fn rank(last: Option<SegId>, from: SegId) -> i32
     }
 }
 
-/// The first of the one found so far and the receiver at this place, where that is ready.
+/// The first of the one found so far and the receiver at this place, if that is ready.
 fn first_of(
     first: Option<Ranked>,
     receiver: &Receiver,
@@ -56,7 +56,7 @@ fn first_of(
     }
 }
 
-/// The place of the first ready one of the receivers at these places, in cyclic order behind the sender served last.
+/// The place of the first ready one of the receivers at these places, in cyclic order after the sender served last.
 fn first_ready(receivers: &[Receiver], places: &[usize], last: Option<SegId>) -> Option<usize>
     requires within { All (λ place. place < length receivers.now) places.now }
     ensures { FindsFirst receivers.now places.now last result }
@@ -164,7 +164,7 @@ impl Query {
 }
 
 impl Hub {
-    /// The slice takes the next parcel of any sender of a motion: of the first that is ready, in cyclic order behind the
+    /// The slice takes the next parcel of any sender of a motion: of the first that is ready, in cyclic order after the
     /// one served last, at first from the least. Gives it, for two owners, with the answer that tells its sender of the
     /// new room. Looks at each sender of the motion; copies the payload once, out of the ring.
     pub fn take(
@@ -207,7 +207,7 @@ impl Hub {
         self.live[query].take(alloc, place)
     }
 
-    /// The slice wants no more of one sender. Gives the datagram that says so, and none where nothing more comes anyway.
+    /// The slice wants no more of one sender. Gives the datagram that says so, and none if nothing more comes anyway.
     pub fn halt(&mut self, alloc: Global, key: &ConnKey) -> Result<Datagrams, HubNo>
         ensures err { OnErr result (self.new ≡ self.old) }
         ensures place { SamePlace self.old self.new }

@@ -20,7 +20,7 @@ use std::alloc::{AllocError, Global};
 /// The last tick, at which the clock stands still.
 const LAST: u64 = 18_446_744_073_709_551_488;
 
-/// The tick behind this one.
+/// The tick after this one.
 #[tactic(auto, unfolding(ic_law::specs::Clock::last_tick))]
 fn tick_behind(now: u64) -> u64
     ensures { result ≡ next_tick now }
@@ -28,7 +28,7 @@ fn tick_behind(now: u64) -> u64
     now.saturating_add(1).min(LAST)
 }
 
-/// Why the clock doesn't go on. What a look is never refused for stands for want of memory.
+/// Why the clock doesn't go on. What a look is never refused for becomes out of memory.
 fn tick_no(no: SendNo) -> TickNo
     ensures { result ≡ tick_no no }
 {
@@ -40,7 +40,7 @@ fn tick_no(no: SendNo) -> TickNo
     }
 }
 
-/// Puts datagrams behind others.
+/// Puts datagrams after others.
 fn append(datagrams: &mut Datagrams, more: Datagrams) -> Result<(), AllocError>
     ensures { OnOk result (datagrams.new ≡ datagrams.old ++ more) }
 {
@@ -50,7 +50,7 @@ fn append(datagrams: &mut Datagrams, more: Datagrams) -> Result<(), AllocError>
     Ok(())
 }
 
-/// What is due of one connection: the numbers of its packets. Their datagrams are put behind others.
+/// What is due of one connection: the numbers of its packets. Their datagrams are put after others.
 fn due_of(alloc: Global, sender: &TimedSender, datagrams: &mut Datagrams) -> Result<Numbers, TickNo>
     ensures numbers { IfOk result (λ numbers. numbers ≡ numbers_due sender.now) }
     ensures datagrams { OnOk result (datagrams.new ≡ datagrams.old ++ datagrams_due sender.now) }
@@ -67,7 +67,7 @@ fn due_of(alloc: Global, sender: &TimedSender, datagrams: &mut Datagrams) -> Res
     Ok(due.numbers)
 }
 
-/// The status query of one connection, where it is due, is put behind other datagrams.
+/// The status query of one connection, if it is due, is put after other datagrams.
 fn query_of(alloc: Global, sender: &TimedSender, datagrams: &mut Datagrams) -> Result<(), TickNo>
     ensures datagrams { OnOk result (datagrams.new ≡ datagrams.old ++ queries_due sender.now) }
     ensures may { OnOk result (MayAsk sender.now) }
@@ -83,7 +83,7 @@ fn query_of(alloc: Global, sender: &TimedSender, datagrams: &mut Datagrams) -> R
     Ok(())
 }
 
-/// What is due of each of these connections: the numbers of its packets. Their datagrams are put behind others.
+/// What is due of each of these connections: the numbers of its packets. Their datagrams are put after others.
 fn dues(
     alloc: Global,
     senders: &[TimedSender],
@@ -104,7 +104,7 @@ fn dues(
     Ok(numbers)
 }
 
-/// The status queries that are due of these connections are put behind other datagrams.
+/// The status queries that are due of these connections are put after other datagrams.
 fn queries(alloc: Global, senders: &[TimedSender], datagrams: &mut Datagrams) -> Result<(), TickNo>
     ensures datagrams { OnOk result (datagrams.new ≡ datagrams.old ++ flat_map queries_due senders.now) }
     ensures may { OnOk result (AllByRecursion MayAsk senders.now) }
@@ -199,7 +199,7 @@ impl Hub {
     }
 
     /// The clock goes on by one: gives the packets that are emitted again and the status queries that are due, by query,
-    /// in each the packets of its connections in their order and then the queries. Where one of them has no resending
+    /// in each the packets of its connections in their order and then the queries. If one of them has no resending
     /// left the first such is named and nothing changes. First all are looked at, then all are changed, which takes no
     /// memory. Looks at each sending connection; of one with nothing due it only finds so.
     pub fn tick(&mut self, alloc: Global) -> Result<Datagrams, TickNo>

@@ -108,7 +108,7 @@ pub record Stays (a b : Noding) : Type 0 where
   pub refusal : LeaveNo
   pub adds : Adds (leave_entry a.query (Err refusal)) a b
 
--- the query was left where the answer is true
+-- the query was left if the answer is true
 abbrev pub LeftOrNot : Bool → Noding → Noding → Type 0
 LeftOrNot true a b = Leaves a b
 LeftOrNot false a b = Stays a b

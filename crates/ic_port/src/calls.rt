@@ -51,7 +51,7 @@ impl Node {
         Ok(())
     }
 
-    /// The clock goes on by one. Where it doesn't for a packet that was emitted too often, that is an entry too.
+    /// The clock goes on by one. If it doesn't for a packet that was emitted too often, that is an entry too.
     pub fn tick(&mut self, alloc: Global) -> Result<(), TickNo>
         ensures ok { OnOk result (Ticks self.old self.new) }
         ensures err { IfErr result (λ refusal. TickRefused refusal self.old self.new) }
@@ -65,7 +65,7 @@ impl Node {
         told
     }
 
-    /// Ends the query here, where each of its connections is over. Tells whether it was left; where it wasn't, the asking
+    /// Ends the query here, if each of its connections is over. Tells whether it was left; if it wasn't, the asking
     /// is an entry all the same, and the query is served on.
     pub fn leave(&mut self) -> Result<bool, AllocError>
         ensures ok { IfOk result (λ left. LeftOrNot left self.old self.new) }

@@ -64,7 +64,7 @@ pub record IsHalting (c : ConnKey) (a : Option Datagram) (e : Entry) : Type 0 wh
 -- ---- others
 
 -- An entry that doesn't concern the end: it takes, stores, halts and tells nothing of it, and stops it only for an ended
--- query. Where the end is here, what was asked of it found no memory.
+-- query. If the end is here, what was asked of it found no memory.
 pub record IsSilent (end : ConnEnd) (before : List Entry) (e : Entry) : Type 0 where
   pub takes_none : takes end.key e ≡ []
   pub stores_none : stores end.key e ≡ []

@@ -21,7 +21,7 @@ pub record Receiving : Type 0 where
   pub whole : Bool
   pub rows : ℕ
 
--- a ring of at most 256 packets, where there is one
+-- a ring of at most 256 packets, if there is one
 abbrev pub IsShort : Option Ring → Type 0
 IsShort (Some ring) = ring.depth ≤ 256
 IsShort None = Unit {0}
@@ -36,14 +36,14 @@ begun end settings = record { end = end; ring = Some (empty settings.receive_dep
 abbrev pub storing : Ring → Packet → Ring
 storing s q = record s { kept = placed q s.kept }
 
--- What a packet that is stored is answered, with the ring as it is then, where the run had ended at r. The run's next:
--- Ack with the new end and the number consumed. Behind a gap: Disorder with the greatest number stored and those that
+-- What a packet that is stored is answered, with the ring as it is then, if the run had ended at r. The run's next:
+-- Ack with the new end and the number consumed. After a gap: Disorder with the greatest number stored and those that
 -- are missing below it.
 pub data TellsStored (end : ConnEnd) (now : Ring) (r seq : ℕ) (d : Datagram) : Type 0 where
   Next : (run : ℕ) → seq ≡ r + 1 → IsRunEnd (stored_of now) run → IsAnswer end Ack run now.consumed [] d → TellsStored end now r seq d
   Gap : (g : ℕ) → r + 1 < seq → IsGreatest (stored_of now) g → IsAnswer end Disorder seq g (listing (missing (stored_of now) r g)) d → TellsStored end now r seq d
 
--- What is done with a packet where the end isn't halted. In the run or kept: Duplicate with the run's end. Past the
+-- What is done with a packet if the end isn't halted. In the run or kept: Duplicate with the run's end. Past the
 -- room, or too long: no answer. Else it is stored.
 pub data HearsRows (end : ConnEnd) (s : Ring) (q : Packet) (a : Option Datagram) (after : Ring) : Type 0 where
   Again : (d : Datagram) (r : ℕ) → IsRunEnd (stored_of s) r → IsRepeated s r q.seq → IsAnswer end Duplicate q.seq r [] d
@@ -100,7 +100,7 @@ pub record HandsFront (end : ConnEnd) (s : Ring) (p : Parcel) (d : Datagram) (af
   pub after_is : after ≡ after_front s
   pub stored : stored_of after ≡ stored_of s
 
--- where it is neither whole nor halted; the rows that end in the payload are counted
+-- if it is neither whole nor halted; the rows that end in the payload are counted
 pub record HandsOver (s : Receiving) (p : Parcel) (d : Datagram) (after : Receiving) : Type 0 where
   pub goes_on : s.whole ≡ false
   pub ring : Ring
@@ -113,7 +113,7 @@ pub record HandsOver (s : Receiving) (p : Parcel) (d : Datagram) (after : Receiv
 
 -- ---- halting
 
--- nothing where it is whole or halted; else what is kept is dropped, and Stop says so
+-- nothing if it is whole or halted; else what is kept is dropped, and Stop says so
 pub data Halts (s : Receiving) (a : Option Datagram) (after : Receiving) : Type 0 where
   HaltsAgain : IsOver s → a ≡ None → after ≡ s → Halts s a after
   HaltsNow : (d : Datagram) (ring : Ring) → s.whole ≡ false → s.ring ≡ Some ring → IsAnswer s.end Stop 0 0 [] d

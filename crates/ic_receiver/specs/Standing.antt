@@ -57,7 +57,7 @@ abbrev pub WaitsForNext : Receiving → Type 0
 WaitsForNext s = (settings : Settings) (h : List Entry) → Stands settings s h
     → (IsEnded s.end.key h → ⊥) × ((p : RowPacket) → IsNext s.end.key h p → ⊥)
 
--- where more is to be taken, the next packet isn't there
+-- if more is to be taken, the next packet isn't there
 abbrev pub NotReady : Receiving → Type 0
 NotReady s = (settings : Settings) (h : List Entry) → Stands settings s h → (IsEnded s.end.key h → ⊥) → (p : RowPacket) → IsNext s.end.key h p → ⊥
 

@@ -12,7 +12,7 @@ use ic_header::{Flags, answer_packet, listing_packet};
 use ic_recvring::{RecvRing, Store};
 use std::alloc::{AllocError, Global};
 
-/// The answer to a packet that is stored now, where the run had ended at `run`: what came up to where, or what is
+/// The answer to a packet that is stored now, if the run had ended at `run`: how far what came reaches, or what is
 /// missing.
 fn tell_stored(
     alloc: Global,

@@ -135,7 +135,7 @@ impl Receiver {
     }
 
     /// A packet of rows of this connection came: its number, its body and whether it is flagged with the end of stream.
-    /// Gives the one answer, or `None` where the packet is past the number consumed and the depth, or longer than a
+    /// Gives the one answer, or `None` if the packet is past the number consumed and the depth, or longer than a
     /// packet: then it is dropped without an answer. A stored payload is copied once; the answer takes memory of its
     /// own length. Without it nothing is stored.
     pub fn on_packet(
@@ -229,7 +229,7 @@ impl Receiver {
     }
 
     /// The slice wants no more of this sender, as QUIC's STOP_SENDING (RFC 9000, 3.5). Drops what is kept and gives the
-    /// datagram that says so, and `None` where the connection is whole or halted.
+    /// datagram that says so, and `None` if the connection is whole or halted.
     pub fn halt(&mut self, alloc: Global) -> Result<Option<Datagram>, AllocError>
         ensures halts { IfOk result (λ a. Halts self.old a self.new) }
         ensures memory { OnErr result (self.new ≡ self.old) }

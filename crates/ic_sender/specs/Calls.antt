@@ -34,7 +34,7 @@ LeavesRoom more q = length q.held + more ≤ q.room
 abbrev pub unsent : Sending → ℕ
 unsent s = s.sealed - s.sent
 
--- and one more, where one more can be sealed
+-- and one more, if one more can be sealed
 abbrev pub unsealed : Sending → ℕ
 unsealed s = unsent s + (if nat_lt (length s.kept) s.settings.send_depth then 1 else 0)
 
@@ -46,7 +46,7 @@ pub record Gives (m : Sending) (held : List Item) (now : ℕ) (before ds : List 
 
 -- ---- putting
 
--- What a put, or a finish, answers, where the packet that is being filled must be sealed for it or not, and where it
+-- What a put, or a finish, answers, if the packet that is being filled must be sealed for it or not, and if it
 -- makes filled of the connection. A stopped connection takes nothing more.
 pub data Puts (s : Sending) (q : Queue) (now : ℕ) (needs : Type 0) (filled : Sending) (result : Result (List Datagram) SendNo) (after : Sending) (left : Queue) : Type 0 where
   Stopped : s.stopped ≡ true → result ≡ Err refused.Stopped → after ≡ s → left ≡ q → Puts s q now needs filled result after left
@@ -120,7 +120,7 @@ abbrev pub queries_when : Sending → Bool → List Datagram
 queries_when s true = query_datagram s.end s.sent ∷ []
 queries_when s false = []
 
--- the status query that goes out, behind the greatest number emitted
+-- the status query that goes out, after the greatest number emitted
 abbrev pub queries_next : ℕ → Sending → List Datagram
 queries_next now s = queries_when s (query_due now s.asked)
 

@@ -61,7 +61,7 @@ pub record IsFinishing (c : ConnKey) (result : Result (List Datagram) SendNo) (e
   pub ask : e.ask ≡ Finish c
   pub reply : e.reply ≡ gave_of result
 
--- an answer of c came from its other end, with these numbers, and this body where it lists what is missing
+-- an answer of c came from its other end, with these numbers, and this body if it lists what is missing
 pub record IsHearing (c : ConnKey) (flags : Flags) (seq extra : ℕ) (body : List ℕ) (result : Result (List Datagram) SendNo) (e : Entry) : Type 0 where
   pub datagram : Datagram
   pub packet : Packet
@@ -126,7 +126,7 @@ pub record IsBefore (end : ConnEnd) (before : List Entry) (e : Entry) : Type 0 w
   pub nothing : IsNothingOf end.key e
   pub away : IsHere end before → ⊥
 
--- An entry that doesn't concern the end: nothing of it, and no tick. Where the end is there, what was asked of it found no
+-- An entry that doesn't concern the end: nothing of it, and no tick. If the end is there, what was asked of it found no
 -- memory.
 pub record IsSilent (end : ConnEnd) (before : List Entry) (e : Entry) : Type 0 where
   pub nothing : IsNothingOf end.key e

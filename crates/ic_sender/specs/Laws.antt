@@ -35,10 +35,10 @@ OthersWait = (s : Sending) (held left : List Item) (h : List Entry) → held_of 
 abbrev pub KeepsLaw : Type 0
 KeepsLaw = (s : Sending) (held : List Item) (h : List Entry) → Stands s held h → Every (KeepsSending s.settings s.end) h
 
--- what is on its way is due soon, and a status query where nothing is and a packet is unsent
+-- each packet on its way is due soon; if none is and a packet is unsent, a status query is
 abbrev pub StaysArmed : Type 0
 StaysArmed = (s : Sending) (held : List Item) (h : List Entry) → Stands s held h → IsArmed s.settings s.end.key h (dues_held s.conn held) (query_at s.asked)
 
--- it is over where the history says so
+-- it is over if the history says so
 abbrev pub OverTells : Type 0
 OverTells = (s : Sending) (held : List Item) (h : List Entry) → Stands s held h → IsOver s ↔ IsOverIn s.end.key h

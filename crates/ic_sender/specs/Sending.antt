@@ -116,7 +116,7 @@ rows_next s = rows_kept s.kept (numbers_behind s.sent (count_next s))
 abbrev pub flight_of : ConnEnd → ℕ → RowPacket → Flight
 flight_of end now p = record { seq = p.seq; tries = 0; since = now; resent = false; datagram = row_datagram end p }
 
--- Where nothing is on its way, a packet is unsent and the receiver has no room, a status query stands; room ends it.
+-- If nothing is on its way, a packet is unsent and the receiver has no room, a status query stands; room ends it.
 abbrev pub asked_next : ℕ → Sending → Option Asked
 asked_next now s =
     if nat_lt 0 (capacity s) then None else
@@ -157,7 +157,7 @@ pub record Answer : Type 0 where
 abbrev pub run_with : Answer → Sending → ℕ
 run_with a s = max s.acked a.run
 
--- the time of a packet is a sample, where it was never emitted again
+-- the time of a packet is a sample, if it was never emitted again
 abbrev pub sample_by : ℕ → Option Flight → WindowState → WindowState
 sample_by now None w = w
 sample_by now (Some f) w = if f.resent then w else sampled (now - f.since) w
@@ -204,7 +204,7 @@ copy_of (Some f) = f.datagram ∷ []
 abbrev pub copies : List Flight → List ℕ → List Datagram
 copies flights numbers = flat_map (λ n. copy_of (flight_at flights n)) numbers
 
--- a loss, where anything was emitted again
+-- a loss, if anything was emitted again
 abbrev pub lost_with : List Datagram → WindowState → WindowState
 lost_with [] w = w
 lost_with (d ∷ ds) w = lost w

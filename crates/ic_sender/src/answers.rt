@@ -39,7 +39,7 @@ pub(crate) struct Answer<'a> {
     pub lists: &'a [u32],
 }
 
-/// A window with the time of this packet, where it was never emitted again: Karn's rule.
+/// A window with the time of this packet, if it was never emitted again: Karn's rule.
 fn sampled(window: &Window, flight: Option<&Flight>, now: u64) -> Window
     ensures { result ≡ sample_by now (option_map (λ f. f.now) flight.entry) window.now }
 {
@@ -53,7 +53,7 @@ fn sampled(window: &Window, flight: Option<&Flight>, now: u64) -> Window
     }
 }
 
-/// A window that lost, where anything was emitted again.
+/// A window that lost, if anything was emitted again.
 fn with_loss(window: &Window, again: &[Datagram]) -> Window
     ensures { result ≡ lost_with again.now window.now }
 {
@@ -248,7 +248,7 @@ impl Sender {
         Ok(self.hear(alloc, &answer, now, expiry)?)
     }
 
-    /// Packet `seq` came where no such connection was yet: it is alive, and is emitted again when it is due.
+    /// Packet `seq` came before there was such a connection: it is alive, and is emitted again when it is due.
     pub fn on_nak(
         &mut self,
         alloc: Global,
@@ -310,7 +310,7 @@ impl Sender {
         }
     }
 
-    /// Packet `seq` came behind a gap, `extra` is the greatest that came, and `missing` has the numbers that are missing
+    /// Packet `seq` came after a gap, `extra` is the greatest that came, and `missing` has the numbers that are missing
     /// below it, four bytes each. Frees what is before the first of them, emits those again that are on their way, and
     /// then what there is room for. Reads the numbers into memory once, and goes over them once; each packet on its way
     /// is looked at for each number that is not above it.

@@ -78,7 +78,7 @@ pub(crate) fn push_copies(
     Ok(())
 }
 
-/// The same, where the number is above another one. No packet is above the greatest one.
+/// The same, if the number is above another one. No packet is above the greatest one.
 fn push_copy_above(
     flights: &[Flight],
     run: u32,
@@ -98,7 +98,7 @@ fn push_copy_above(
     push_copy(flights, seq, out)
 }
 
-/// The same, of those above a number. Looks for a packet only where the number is one that may be on its way: of
+/// The same, of those above a number. Looks for a packet only if the number is one that may be on its way: of
 /// numbers that increase no more than there are packets.
 pub(crate) fn push_copies_above(
     flights: &[Flight],
@@ -178,7 +178,7 @@ pub(crate) fn retry_all(flights: &mut [Flight], numbers: &[u32])
     }
 }
 
-/// Puts some behind the others, where there is room.
+/// Puts some after the others, if there is room.
 pub(crate) fn join(flights: &mut Vec<Flight>, mut more: Vec<Flight>)
     requires { vec_len flights.old + vec_len more ≤ vec_capacity flights.old }
     ensures { flights.new.items ≡ flights.old.items ++ more.items }

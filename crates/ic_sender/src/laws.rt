@@ -28,12 +28,12 @@ pub fn keeps_law()
     ensures { KeepsLaw }
 {}
 
-/// Each packet on its way is due soon, and a status query is where nothing is and a packet is unsent.
+/// Each packet on its way is due soon; if none is and a packet is unsent, a status query is.
 pub fn stays_armed()
     ensures { StaysArmed }
 {}
 
-/// A connection is over exactly where its history says so.
+/// A connection is over exactly if its history says so.
 pub fn over_tells()
     ensures { OverTells }
 {}

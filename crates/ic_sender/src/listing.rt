@@ -26,7 +26,7 @@ pub(crate) fn words(alloc: Global, bytes: &[u8]) -> Result<Vec<u32>, AllocError>
     Ok(words)
 }
 
-/// The last of these numbers, 0 where there is none, if they increase from at least 1.
+/// The last of these numbers, 0 if there is none, if they increase from at least 1.
 pub(crate) fn last_increasing(numbers: &[u32]) -> Option<u32>
     ensures some { IfSome result (λ n. IsIncreasingFrom 1 numbers.now × (n ≡ last_or 0 numbers.now)) }
     ensures none { result ≡ None → IsIncreasingFrom 1 numbers.now → ⊥ }

@@ -61,7 +61,7 @@ impl Numbers {
         self.sealed.saturating_sub(self.sent).min(room)
     }
 
-    /// The status query that stands then. Where nothing is on its way, a packet is unsent and the receiver has no room,
+    /// The status query that stands then. If nothing is on its way, a packet is unsent and the receiver has no room,
     /// there is one; room ends it.
     pub(crate) fn asks(
         &self,

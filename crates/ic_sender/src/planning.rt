@@ -83,7 +83,7 @@ fn push_at(
     push_row(alloc, end, packet, now, out)
 }
 
-/// The next `count` packets behind number `sent`, as they go out at this tick. Each takes the memory of its datagram.
+/// The next `count` packets after number `sent`, as they go out at this tick. Each takes the memory of its datagram.
 pub(crate) fn going(
     alloc: Global,
     end: &ConnEnd,

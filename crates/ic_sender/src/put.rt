@@ -23,7 +23,7 @@ const BESIDE: usize = 68;
 /// The end of stream, as a chunk: no bytes, of kind 4.
 const END: [u8; 4] = [0, 0, 0, 4];
 
-/// Puts bytes in place of others, where there is room. Takes no memory.
+/// Puts bytes in place of others, if there is room. Takes no memory.
 fn refill(opened: &mut Vec<u8>, bytes: &[u8])
     requires { length bytes.now ≤ vec_capacity opened.old }
     ensures items { opened.new.items ≡ bytes.now }
@@ -35,7 +35,7 @@ fn refill(opened: &mut Vec<u8>, bytes: &[u8])
     }
 }
 
-/// Adds bytes, where there is room. Takes no memory.
+/// Adds bytes, if there is room. Takes no memory.
 fn fill(opened: &mut Vec<u8>, bytes: &[u8])
     requires { length opened.old.items + length bytes.now ≤ vec_capacity opened.old }
     ensures items { opened.new.items ≡ opened.old.items ++ bytes.now }
@@ -46,7 +46,7 @@ fn fill(opened: &mut Vec<u8>, bytes: &[u8])
     }
 }
 
-/// Seals a payload, where there is room. Takes no memory.
+/// Seals a payload, if there is room. Takes no memory.
 fn seal(ring: &mut SendRing, payload: &[u8], last: bool)
     requires kept { length ring.old.kept < ring.old.depth }
     requires number { ring.old.sealed + 1 < 4294967296 }
@@ -58,7 +58,7 @@ fn seal(ring: &mut SendRing, payload: &[u8], last: bool)
     }
 }
 
-/// A payload with the end of stream behind it.
+/// A payload with the end of stream after it.
 #[tactic(auto, unfolding(ic_chunk::specs::Chunks::spelled))]
 fn with_end(alloc: Global, payload: &[u8]) -> Result<Vec<u8>, AllocError>
     requires { length payload.now ≤ 65507 }
@@ -93,7 +93,7 @@ impl Sender {
         Ok(())
     }
 
-    /// A chunk is appended to the packet that is being filled, where it fits.
+    /// A chunk is appended to the packet that is being filled, if it fits.
     fn append(
         &mut self,
         alloc: Global,
@@ -247,7 +247,7 @@ impl Sender {
         Ok(self.append_next(alloc, chunk, now, expiry)?)
     }
 
-    /// Puts a chunk of 4 bytes or more that isn't an end of stream, and emits what there is room for. Where the chunk
+    /// Puts a chunk of 4 bytes or more that isn't an end of stream, and emits what there is room for. If the chunk
     /// doesn't fit in the packet that is being filled, that packet is sealed. `now` is the tick of the queue's last
     /// question, or the one before it. Copies the chunk once, and each packet once when it is sealed and once when it is
     /// first emitted.

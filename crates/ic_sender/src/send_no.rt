@@ -14,7 +14,7 @@ pub enum SendNo {
     Stopped,
     /// The caller's doing: the stream needs packet 4294967296, and there is no such number.
     TooLong(ConnKey),
-    /// The peer's or the network's doing: this packet, or a status query behind it, was emitted again so often, and no
+    /// The peer's or the network's doing: this packet, or a status query after it, was emitted again so often, and no
     /// answer came.
     Spent { key: ConnKey, seq: u32, tries: u32 },
     /// The peer's or the network's doing: an answer to what wasn't emitted, or one that contradicts itself.

@@ -173,7 +173,7 @@ impl Sender {
         self.ring.unacked()
     }
 
-    /// The greatest number emitted, 0 where nothing was.
+    /// The greatest number emitted, 0 if nothing was.
     pub fn sent(&self) -> u32
         ensures { result ≡ self.now.sent }
     {

@@ -43,7 +43,7 @@ fn first_spent(flights: &[Flight], seqs: &[u32], retries: u32) -> Option<u32>
     None
 }
 
-/// A window that lost, where packets were emitted again.
+/// A window that lost, if packets were emitted again.
 fn with_loss(window: &Window, seqs: &[u32]) -> Window
     ensures { result ≡ lost_where seqs.now window.now }
 {
@@ -107,7 +107,7 @@ impl Sender {
         self.resent = self.resent.saturating_add(seqs.len() as u128);
     }
 
-    /// The first half of a tick, for the status query: gives it where it is due, or says that it has no resending left.
+    /// The first half of a tick, for the status query: gives it if it is due, or says that it has no resending left.
     pub fn query_gives(&self, alloc: Global, now: u64) -> Result<Datagrams, SendNo>
         ensures { Queries self.now now result }
     {

@@ -19,7 +19,7 @@ OthersPass = (o : TimedState) (h : List Entry) (e : Entry) → IsSilent o.sendin
 abbrev pub KeepsLaw : Type 0
 KeepsLaw = (o : TimedState) (h : List Entry) → Stands o h → Every (KeepsSending o.sending.settings o.sending.end) h
 
--- what is on its way is due soon, and a status query where nothing is and a packet is unsent
+-- each packet on its way is due soon; if none is and a packet is unsent, a status query is
 abbrev pub StaysArmed : Type 0
 StaysArmed = (o : TimedState) (h : List Entry) → Stands o h → IsArmed o.sending.settings o.sending.end.key h (dues_held o.sending.conn o.held) (query_at o.sending.asked)
 

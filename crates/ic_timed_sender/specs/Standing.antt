@@ -24,7 +24,7 @@ pub record HasResent (c : ConnKey) (h : List Entry) (sent resent : ℕ) : Type 0
   pub emitted : length (rows_emitted_of c h) ≡ sent + again
   pub told : resent ≡ min again (2 ^ 128 - 1)
 
--- It is at the tick of a history, finished where the history says so, and its connection, with what waits, stands for it.
+-- It is at the tick of a history, finished if the history says so, and its connection, with what waits, stands for it.
 -- Its counts are those of the history.
 pub record Stands (o : TimedState) (h : List Entry) : Type 0 where
   pub clock : clock_of h ≡ o.now
@@ -58,12 +58,12 @@ pub record KeepsQuery (s : Sending) (h : List Entry) : Type 0 where
   pub asked : spent_query s.settings (next_clock h) (timing_of s.end.key s.settings h).asked ≡ false
   pub query : query_spent s.settings h s.end ≡ []
 
--- it is, behind the packet of this number
+-- it is, after the packet of this number
 abbrev pub GivesQueryUp : Sending → ℕ → List Entry → Type 0
 GivesQueryUp s seq h = s.end.sending ≡ true → query_spent s.settings h s.end ≡ (s.end.key, seq) ∷ []
 
--- What a look at the next tick tells of each history for which it stands: nothing is given up where there is an answer;
--- and where the look says what is, it is that, after all resendings.
+-- What a look at the next tick tells of each history for which it stands: nothing is given up if there is an answer;
+-- and if the look says what is, it is that, after all resendings.
 abbrev pub Tells : {A : Type 0} → TimedState → (Sending → List Entry → Type 0) → (Sending → ℕ → List Entry → Type 0) → Result A SendNo → Type 0
 Tells {A = A} o Keeps GivesUp (Ok r) = (h : List Entry) → Stands o h → Keeps o.sending h
 Tells {A = A} o Keeps GivesUp (Err Full) = Unit {0}

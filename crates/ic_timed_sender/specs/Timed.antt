@@ -42,7 +42,7 @@ pub record SameEnd (old new : TimedState) : Type 0 where
 
 -- ---- a put
 
--- the chunk, where it was taken
+-- the chunk, if it was taken
 abbrev pub taken_of : List ℕ → Result (List Datagram) SendNo → List (List ℕ)
 taken_of chunk (Ok ds) = chunk ∷ []
 taken_of chunk (Err refusal) = []

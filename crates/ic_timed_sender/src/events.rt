@@ -25,7 +25,7 @@ fn are_words(seq: u32, extra: u32)
     ensures extra { extra < 2 ^ 32 }
 {}
 
-/// The count of the rows that were put, with those of a chunk, where it was taken.
+/// The count of the rows that were put, with those of a chunk, if it was taken.
 fn rows_with(rows: u64, chunk: &[u8], given: &Result<Datagrams, SendNo>) -> u64
     ensures counts { (payloads : List (List ℕ)) → HasCounted payloads rows → HasCounted (payloads ++ taken_of chunk.now given.now) result }
     ensures err { OnErr given.now (result ≡ rows) }
@@ -67,10 +67,10 @@ fn answer(
 }
 
 impl TimedSender {
-    /// Puts a chunk of 4 bytes or more that isn't an end of stream, and emits what there is room for. Where the chunk
+    /// Puts a chunk of 4 bytes or more that isn't an end of stream, and emits what there is room for. If the chunk
     /// doesn't fit in the packet that is being filled, that packet is sealed. Allocates for the datagrams that go out, and
     /// copies the chunk once, and each packet once when it is sealed and once when it is first emitted. Counts the row that
-    /// ends with it, if one does. Where it is refused nothing changes.
+    /// ends with it, if one does. If it is refused nothing changes.
     pub fn put(&mut self, alloc: Global, chunk: &[u8]) -> Result<Datagrams, SendNo>
         requires unfinished { self.old.sending.finished ≡ false }
         requires least { 4 ≤ length chunk.now }
@@ -89,7 +89,7 @@ impl TimedSender {
     }
 
     /// Puts the end of stream, which seals the packet that is being filled, and emits what there is room for. Copies that
-    /// packet once more than a put does. Where it is refused nothing changes.
+    /// packet once more than a put does. If it is refused nothing changes.
     pub fn finish(&mut self, alloc: Global) -> Result<Datagrams, SendNo>
         requires unfinished { self.old.sending.finished ≡ false }
         ensures puts { Puts self.old.sending (queue_of self.old) self.old.now (Unit {0}) (ending self.old.sending) result self.new.sending (queue_of self.new) }
@@ -106,7 +106,7 @@ impl TimedSender {
     /// An answer of this connection came: it frees what it acknowledges, emits again what it lists, and then what there is
     /// room for. What the two numbers say goes by the kind of the answer; the other fields of the header are read by
     /// nobody here. Allocates for the datagrams that go out, and once for the numbers of a report of what is missing. Copies
-    /// each packet that is first emitted, and none that is emitted again. Where it is refused nothing changes.
+    /// each packet that is first emitted, and none that is emitted again. If it is refused nothing changes.
     pub fn hear(&mut self, alloc: Global, head: &Header, body: &[u8]) -> Result<Datagrams, SendNo>
         requires back { goes_forth head.now.flags ≡ false }
         requires allowed { AllowsBody head.now.flags (length body.now) }

@@ -12,7 +12,7 @@ pub fn keeps_law()
     ensures { KeepsLaw }
 {}
 
-/// Each packet on its way is due soon, and a status query is where nothing is and a packet is unsent.
+/// Each packet on its way is due soon; if none is and a packet is unsent, a status query is.
 pub fn stays_armed()
     ensures { StaysArmed }
 {}

@@ -4,7 +4,7 @@
 //! A hub makes one [`TimedSender`] for each connection that sends from its segment. Commands of the slice are `put` and
 //! `finish`. The event is `hear`, once the hub has found that a datagram is an answer of this connection. Each gives the
 //! datagrams that the hub then emits. A tick has two phases, so that a refused one changes nothing: the hub first looks at
-//! all its connections, with `due` and `query`, and where nothing is given up it makes the change, with `ticked`. Ticks are
+//! all its connections, with `due` and `query`, and if nothing is given up it makes the change, with `ticked`. Ticks are
 //! the hub's count: each connection is told of each one, in the order of the hub. `is_over`, `is_stopped`, `is_finished`,
 //! `key`, `sent`, `resent` and `rows` look: the last two count the packets that were emitted again, and the rows that were
 //! put.

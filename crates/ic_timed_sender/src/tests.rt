@@ -66,7 +66,7 @@ fn finish(out: &mut TimedSender, alloc: Global) -> Result<Datagrams, Fail> {
     given(out.finish(alloc))
 }
 
-/// An answer without a body: packets up to `seq` came, and `extra` were consumed, where it is an Ack.
+/// An answer without a body: packets up to `seq` came, and `extra` were consumed, if it is an Ack.
 fn answer(flags: Flags, seq: u32, extra: u32) -> Header
     ensures { result.flags ≡ flags }
 {

@@ -24,7 +24,7 @@ use std::alloc::{AllocError, Global};
 /// The last tick, at which the clock stands still: what is due 64 ticks later still fits in 64 bits.
 const LAST: u64 = 18_446_744_073_709_551_488;
 
-/// The tick behind this one.
+/// The tick after this one.
 #[tactic(auto, unfolding(ic_law::specs::Clock::last_tick))]
 fn tick_behind(now: u64) -> u64
     ensures { result ≡ next_tick now }
@@ -81,7 +81,7 @@ impl TimedSender {
     }
 
     /// The first half of a tick: the packets that are due at the next one, or the first of them with no resending left.
-    /// Changes nothing. Allocates for the numbers and for the datagrams, and not at all where nothing is due; copies no
+    /// Changes nothing. Allocates for the numbers and for the datagrams, and not at all if nothing is due; copies no
     /// bytes.
     pub fn due(&self, alloc: Global) -> Result<Due, SendNo>
         ensures looks { Looks self.now result }
@@ -95,8 +95,8 @@ impl TimedSender {
         self.look(alloc)
     }
 
-    /// The first half of a tick: the status query, where it is due at the next one, or that it has no resending left.
-    /// Changes nothing, and allocates only where one is due.
+    /// The first half of a tick: the status query, if it is due at the next one, or that it has no resending left.
+    /// Changes nothing, and allocates only if one is due.
     pub fn query(&self, alloc: Global) -> Result<Datagrams, SendNo>
         ensures looks { Queries self.now.sending (next_tick self.now.now) result }
         ensures ok { IfOk result (GivesQuery self.now) }

@@ -110,7 +110,7 @@ impl TimedSender {
         self.sender.is_over()
     }
 
-    /// The greatest number emitted, 0 where nothing was.
+    /// The greatest number emitted, 0 if nothing was.
     pub fn sent(&self) -> u32
         ensures value { result ≡ self.now.sending.sent }
         ensures tells { (h : List Entry) → Stands self.now h → sent_upto self.now.sending.end.key h ≡ result }

@@ -15,7 +15,7 @@ pub record Count : Type 0 where
 abbrev pub opening : ℕ → Count
 opening limit = record { limit = limit; sum = 0 }
 
--- a sum is replied where it is within the limit
+-- a sum is replied if it is within the limit
 abbrev pub within : ℕ → ℕ → Counted
 within limit total = if nat_le total limit then Sum total else Over
 

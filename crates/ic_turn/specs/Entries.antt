@@ -13,7 +13,7 @@ module _ {A R : Type 0} where
   abbrev pub Every : (List (Entry A R) → Entry A R → Type 0) → List (Entry A R) → Type 0
   Every P entries = (before : List (Entry A R)) (e : Entry A R) (after : List (Entry A R)) → entries ≡ before ++ e ∷ after → P before e
 
-  -- For every list for which a machine stood before, it stands now for that list with these entries behind it. What it
+  -- For every list for which a machine stood before, it stands now for that list with these entries added. What it
   -- stands for is a set of lists, before and now.
   abbrev pub StandsWith : (List (Entry A R) → Type 0) → (List (Entry A R) → Type 0) → List (Entry A R) → Type 0
   StandsWith before now more = (entries : List (Entry A R)) → before entries → now (entries ++ more)

@@ -21,7 +21,7 @@ module _ {A R : Type 0} (passes : ℕ) (log : List (Numbered A R)) (owner : ℕ 
   abbrev pub OwnsEach : List (Part A R) → Type 0
   OwnsEach ps = (i : ℕ) (p : Part A R) → get_elem? ps i ≡ some p → Owns p
 
--- What a stage says of the list, where `busy` seats hold a ticket (none or one), and `who` is the last that drew one.
+-- What a stage says of the list, if `busy` seats hold a ticket (none or one), and `who` is the last that drew one.
 -- A noted number is exact if its seat holds all numbers, since then nobody else can call.
 module _ {A R S : Type 0} (stands : S → List (Entry A R) → Type 0) (passes : ℕ) (log : List (Numbered A R)) (busy who seat : ℕ) (ps : List (Part A R)) where
   abbrev pub KnowsStage : Stage A R S → Type 0

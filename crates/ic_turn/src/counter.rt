@@ -97,7 +97,7 @@ fn reply_to(limit: u64, sum: u64, ask: u64) -> Counted
     }
 }
 
-/// The sum, where it is within the limit.
+/// The sum, if it is within the limit.
 fn within(limit: u64, sum: u64) -> Counted
     ensures { result ≡ within limit sum }
 {

@@ -8,12 +8,12 @@ use std::alloc::Global;
 /// What serves asks one at a time, and answers each at once.
 ///
 /// A machine keeps no list of what it was asked. Contracts speak of such lists all the same: it *stands* for a list of
-/// entries, each an ask with its reply, where its state is one that they can have led to. Whoever drives it shows that
+/// entries, each an ask with its reply, if its state is one that they can have led to. Whoever drives it shows that
 /// it stands for no entries at the beginning, and has the list of all entries at the end, which is then lawful.
 pub trait Machine {
     type Ask;
 
-    /// Where an ask can find no memory, a variant says so.
+    /// If an ask can find no memory, a variant says so.
     type Reply;
 
     /// Plain data that no `act` changes. It is there for contracts alone: no value of it need ever be made.

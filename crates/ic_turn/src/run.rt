@@ -8,7 +8,7 @@ use std::alloc::Global;
 
 /// Asks the machine these things in order, and gives its replies in that order.
 ///
-/// Room for the replies is taken first. Where there is none, nothing is asked, and the asks come back.
+/// Room for the replies is taken first. If there is none, nothing is asked, and the asks come back.
 pub fn act_all<M: Machine>(
     machine: &mut M,
     alloc: Global,

@@ -130,7 +130,7 @@ fn told(alloc: Global, datagrams: &Datagrams) -> Result<String, Fail> {
     Ok(text)
 }
 
-/// The second tick behind what was filled last, at which all is due.
+/// The second tick after what was filled last, at which all is due.
 fn second_tick(hub: &mut Hub, alloc: Global) -> Result<String, Fail> {
     let Ok(_first) = hub.tick(alloc) else {
         return Err("refused".into());
