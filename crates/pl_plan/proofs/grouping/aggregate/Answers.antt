@@ -1,6 +1,6 @@
 use Rattle.std.proofs.Common.{rules, ◌≡◌, ap, subst, ◌∙◌}
 use Rattle.pl_plan.specs.Walking as spec
-use Rattle.pl_plan.proofs.facts.aggregate.Goals as goal
+use Rattle.pl_plan.proofs.grouping.aggregate.Goals as goal
 
 pub returns : goal.returns
 returns c =
