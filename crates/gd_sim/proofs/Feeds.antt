@@ -20,7 +20,7 @@ use Rattle.pl_plan.specs.Soundness.{IsSound}
 use Rattle.pl_plan.specs.Kept.{IsJudged, given_of}
 use Rattle.pl_ops.specs.declared.loaded.Spread.{Spread}
 use Rattle.pl_ops.specs.Rows.{Line}
-use Rattle.pl_ops.specs.Placed.{rows_at}
+use Rattle.pl_ops.specs.Placed.{or_none, rows_at}
 use Rattle.pl_ops.specs.Fitting.{stands_at, placed_at, IsOfKind, IsRowOf, Fits}
 use Rattle.gd_sim.specs.declared.feed.Feed.{Feed}
 use Rattle.gd_sim.specs.Feeding.{part_of, IsFeed}
@@ -207,9 +207,10 @@ few_senders segments (Keyed columns) some = omega arith
 few_senders segments Dealt some = omega arith
 few_senders segments Everywhere some = some
 
-pub is_feed : (segments : ℕ) (loaded : List Spread) (name : List ℕ) (schemas : List Schema) (feed : Feed) → 1 ≤ segments → AreTables schemas → Fits segments schemas loaded
+pub is_feed : (segments : ℕ) (loaded : List Spread) (wholes : List (List Line)) (name : List ℕ) (schemas : List Schema) (feed : Feed) → 1 ≤ segments → AreTables schemas → Fits segments schemas wholes loaded
     → Found segments 0 name schemas feed → IsFeed segments loaded feed
-is_feed segments loaded name schemas feed some tables fits x =
+is_feed segments loaded wholes name schemas feed some tables fits x =
+    let rows = or_none (slice_get wholes x.place) in
     let table = fits.each x.place x.schema x.there in
     let few = few_senders segments x.schema.place some in
     let here : feed.table ≡ x.place = omega (arith, x.table) in
@@ -218,11 +219,11 @@ is_feed segments loaded name schemas feed some tables fits x =
       most = subst (λ n. n ≤ segments) (sym x.senders) few;
       lengths = λ s lt.
           let within : s < segments = omega (arith, lt, x.senders, few) in
-          let are : part_of loaded feed s ≡ placed_at x.schema.place segments s table.rows = ap (λ t. rows_at loaded t (pos s)) here ∙ table.places s within in
-          subst (All HasLengths) (sym are) (All-from_recursion HasLengths _ (all_have x.schema (got IsTable schemas x.place x.schema tables x.there) _ (all_chosen (IsRowOf x.schema.kinds) (stands_at x.schema.place segments s) 0 table.rows table.kinds)));
+          let are : part_of loaded feed s ≡ placed_at x.schema.place segments s rows = ap (λ t. rows_at loaded t (pos s)) here ∙ table.places s within in
+          subst (All HasLengths) (sym are) (All-from_recursion HasLengths _ (all_have x.schema (got IsTable schemas x.place x.schema tables x.there) _ (all_chosen (IsRowOf x.schema.kinds) (stands_at x.schema.place segments s) 0 rows table.kinds)));
     }
 
-pub runs_feed : (segments : ℕ) (loaded : List Spread) (j : Judged) (feed : Feed) → 1 ≤ segments → IsJudged j → j.segments ≡ segments → Fits segments j.schemas loaded → feed_of j ≡ Some feed → IsFeed segments loaded feed
-runs_feed segments loaded j feed some is same fits e =
+pub runs_feed : (segments : ℕ) (loaded : List Spread) (wholes : List (List Line)) (j : Judged) (feed : Feed) → 1 ≤ segments → IsJudged j → j.segments ≡ segments → Fits segments j.schemas wholes loaded → feed_of j ≡ Some feed → IsFeed segments loaded feed
+runs_feed segments loaded wholes j feed some is same fits e =
     let (name, gathers, x) = feed_found j feed e in
-    is_feed segments loaded name j.schemas feed some is.tables fits (subst (λ n. Found n 0 name j.schemas feed) same x)
+    is_feed segments loaded wholes name j.schemas feed some is.tables fits (subst (λ n. Found n 0 name j.schemas feed) same x)

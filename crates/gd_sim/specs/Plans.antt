@@ -8,6 +8,7 @@ use Rattle.pl_tree.specs.Trees.{Tree, Scan, Gather, tree_in}
 use Rattle.pl_tree.specs.Columns.{same_text}
 use Rattle.pl_plan.specs.declared.sound.Judged.{Judged}
 use Rattle.pl_ops.specs.declared.loaded.Spread.{Spread}
+use Rattle.pl_ops.specs.Rows.{Line}
 use Rattle.pl_ops.specs.Fitting.{Fits}
 use Rattle.gd_sim.specs.declared.feed.Feed.{Feed}
 use Rattle.gd_sim.specs.declared.run.FirstRun.{FirstRun}
@@ -66,13 +67,14 @@ abbrev pub feeds_of : List Judged → Option (List Feed)
 feeds_of [] = Some []
 feeds_of (j ∷ js) = before (feed_of j) (feeds_of js)
 
--- a plan that runs so far, judged for these segments and settings, and with at most 64 tables, which the loaded ones fit
+-- a plan that runs so far, judged for these segments and settings, and with at most 64 tables, which the loaded ones fit with some rows
 pub record Runs (segments : ℕ) (settings : Settings) (loaded : List Spread) (j : Judged) : Type 0 where
   pub gathers : is_gather (tree_in j.plan) ≡ true
   pub tables : length j.schemas ≤ 64
   pub segments_are : j.segments ≡ segments
   pub settings_are : j.settings ≡ settings
-  pub fits : Fits segments j.schemas loaded
+  pub wholes : List (List Line)
+  pub fits : Fits segments j.schemas wholes loaded
 
 -- the run is one of what these plans gather
 pub record IsRunOf (session segments rounds : ℕ) (settings : Settings) (loaded : List Spread) (plans : List Judged) (run : FirstRun) : Type 0 where

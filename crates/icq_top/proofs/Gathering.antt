@@ -16,6 +16,7 @@ use Rattle.pl_read.specs.declared.table.Table.{Table}
 use Rattle.pl_read.specs.declared.document.Document.{Document}
 use Rattle.pl_ops.specs.declared.loaded.Spread.{Spread}
 use Rattle.pl_ops.specs.Fitting.{Fits}
+use Rattle.pl_ops.specs.Rows.{Line}
 use Rattle.tb_load.specs.Kept.{loaded_of, schemas_of}
 use Rattle.gd_sim.specs.declared.feed.Feed.{Feed}
 use Rattle.gd_sim.specs.declared.run.FirstRun.{FirstRun}
@@ -117,15 +118,15 @@ pub few_schemas : (g : Given) (plans : List Plan) → length g.schemas ≤ 64 �
 few_schemas g [] few = tt
 few_schemas g (plan ∷ plans) few = (few, few_schemas g plans few)
 
-runs_from : (g : Given) (loaded : List Spread) (plans : List Plan) → length g.schemas ≤ 64 → Fits g.segments g.schemas loaded → AllByRecursion Gathering (map (judged_by g) plans)
+runs_from : (g : Given) (wholes : List (List Line)) (loaded : List Spread) (plans : List Plan) → length g.schemas ≤ 64 → Fits g.segments g.schemas wholes loaded → AllByRecursion Gathering (map (judged_by g) plans)
     → AllByRecursion (Runs g.segments g.settings loaded) (map (judged_by g) plans)
-runs_from g loaded [] few fits all = tt
-runs_from g loaded (plan ∷ plans) few fits all =
-    (record { gathers = all.0; tables = few; segments_are = refl; settings_are = refl; fits = fits }, runs_from g loaded plans few fits all.1)
+runs_from g wholes loaded [] few fits all = tt
+runs_from g wholes loaded (plan ∷ plans) few fits all =
+    (record { gathers = all.0; tables = few; segments_are = refl; settings_are = refl; wholes = wholes; fits = fits }, runs_from g wholes loaded plans few fits all.1)
 
-pub runs_all : (d : Document) (loaded : List Spread) (feeds : List Feed) → length (schemas_of d) ≤ 64 → Fits d.segments (schemas_of d) loaded → feeds_of (judged_in d) ≡ Some feeds
+pub runs_all : (d : Document) (wholes : List (List Line)) (loaded : List Spread) (feeds : List Feed) → length (schemas_of d) ≤ 64 → Fits d.segments (schemas_of d) wholes loaded → feeds_of (judged_in d) ≡ Some feeds
     → AllByRecursion (Runs d.segments d.settings loaded) (judged_in d)
-runs_all d loaded feeds few fits are = runs_from (given_in d) loaded d.queries few fits (all_gather (judged_in d) feeds are)
+runs_all d wholes loaded feeds few fits are = runs_from (given_in d) wholes loaded d.queries few fits (all_gather (judged_in d) feeds are)
 
 -- ---- bounds
 

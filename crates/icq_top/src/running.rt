@@ -48,7 +48,7 @@ pub(crate) fn run_document(alloc: Global, document: Document, drops: &Drops) -> 
         tables,
         queries: Items::new(alloc),
     };
-    let loaded = load(alloc, &tables)?;
+    let loaded = load(alloc, tables)?;
     let run = first_run(
         alloc, session, &plans, &loaded, settings, segments, drops, ROUNDS,
     )?;

@@ -11,7 +11,7 @@ use Rattle.pl_tree.specs.declared.schema.Placing.{Placing}
 use Rattle.pl_tree.specs.declared.schema.Placing.TheVariants.{Keyed, Dealt, Everywhere}
 use Rattle.pl_ops.specs.declared.loaded.Spread.{Spread}
 use Rattle.pl_ops.specs.Rows.{Line}
-use Rattle.pl_ops.specs.Placed.{rows_at}
+use Rattle.pl_ops.specs.Placed.{or_none, rows_at}
 
 -- ---- places
 
@@ -42,13 +42,12 @@ pub record IsRowOf (kinds : List Kind) (row : Line) : Type 0 where
 
 -- ---- tables
 
--- at each segment stand those rows of one table that its placing puts there
-pub record HasTable (segments : ℕ) (schema : Schema) (tables : List Spread) (table : ℕ) : Type 0 where
-  pub rows : List Line
+-- of a table with these rows: they are of its kinds, and at each segment stand those that its placing puts there
+pub record HasTable (segments : ℕ) (schema : Schema) (tables : List Spread) (table : ℕ) (rows : List Line) : Type 0 where
   pub kinds : AllByRecursion (IsRowOf schema.kinds) rows
   pub places : (segment : ℕ) → segment < segments → rows_at tables table (pos segment) ≡ placed_at schema.place segments segment rows
 
--- the tables of these schemas and no others, over so many segments
-pub record Fits (segments : ℕ) (schemas : List Schema) (tables : List Spread) : Type 0 where
+-- the tables of these schemas, whose rows are these lists, and no others, over so many segments
+pub record Fits (segments : ℕ) (schemas : List Schema) (wholes : List (List Line)) (tables : List Spread) : Type 0 where
   pub count : length tables ≡ length schemas
-  pub each : (table : ℕ) (schema : Schema) → slice_get schemas table ≡ Some schema → HasTable segments schema tables table
+  pub each : (table : ℕ) (schema : Schema) → slice_get schemas table ≡ Some schema → HasTable segments schema tables table (or_none (slice_get wholes table))

@@ -7,10 +7,9 @@ ghost use Rattle.pl_plan.specs.Walking.{Gives, walked};
 ghost use Rattle.pl_plan.specs.Tests.{group_width};
 
 use crate::above::Above;
-use crate::facts::{
-    Facts, broadcast, filter, finish, gather, join, limit, partial, project, redistribute, scan,
-    single, sort,
-};
+use crate::facts::{Facts, filter, join, limit, project, scan, sort};
+use crate::grouping::{finish, partial, single};
+use crate::moving::{broadcast, gather, redistribute};
 use crate::rule::PlanNo;
 use ic_row::Key;
 use pl_tree::{Keys, Node, Pair, Schema, Stage, partial_under, schema_named};

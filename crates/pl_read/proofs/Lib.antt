@@ -1,6 +1,7 @@
 pub mod NameLemmas
 pub mod NumberLemmas
 pub mod SoFar
+pub mod JsonReading
 pub mod ExprLemmas
 pub mod ListLemmas
 pub mod NodeLemmas

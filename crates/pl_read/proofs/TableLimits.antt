@@ -13,6 +13,7 @@ use Rattle.ic_row.specs.declared.value.Value.{Value}
 use Rattle.ic_row.specs.declared.value.Value.TheVariants.{Null, Int, Chars}
 use Rattle.pl_tree.specs.Columns as columns
 use Rattle.pl_tree.specs.Sizes.{IsPlaced, IsTable, AreTables}
+use Rattle.pl_tree.specs.declared.schema.Schema.{Schema}
 use Rattle.pl_read.specs.declared.table.Table.{Table}
 use Rattle.pl_read.specs.declared.fault.Flaw.TheVariants as flaw
 use Rattle.pl_read.specs.Paths.{Step, member, index}
@@ -21,7 +22,7 @@ use Rattle.pl_read.specs.Members.{object_at, only, needed}
 use Rattle.pl_read.specs.Values.{position_at, array_at}
 use Rattle.pl_read.specs.Exprs.{integer_in}
 use Rattle.pl_read.specs.Rows.{datum_at, data_from, row_of, row_at, rows_from, rows_at}
-use Rattle.pl_read.specs.Tables.{new_name_at, column_at, columns_from, kinds_at, key_column_at, key_from, key_at, key_in, replicated_in, placing, names_of, table_at, tables_from, tables_at}
+use Rattle.pl_read.specs.Tables.{new_name_at, column_at, columns_from, kinds_at, key_column_at, key_from, key_at, key_in, replicated_in, placing, names_of, schema_at, table_at, tables_from, tables_at}
 use Rattle.pl_read.specs.Limits.{HasWidths, IsOf, FitsColumns, HasKinds}
 use Rattle.pl_read.proofs.Steps.{same_Ok, came, held, found, if_there, all_push, all_map, all_weaker, array_is, each_all}
 
@@ -145,20 +146,26 @@ rows_fit kinds path d rows e =
 abbrev pub KeepsLimits : Table → Type 0
 KeepsLimits table = IsTable table.schema × HasWidths table × HasKinds table
 
+schema_keeps : (names : List (List ℕ)) (path : List Step) (d : Data) (schema : Schema) → schema_at names path d ≡ Ok schema → IsTable schema
+schema_keeps names path d schema e =
+    came (object_at path d) _ schema e (λ ms _ e1.
+    came (only path (codes "name" ∷ codes "columns" ∷ codes "key" ∷ codes "replicated" ∷ codes "rows" ∷ []) ms) _ schema e1 (λ _ _ e2.
+    came (needed (new_name_at names) path (codes "name") d) _ schema e2 (λ name _ e3.
+    came (needed kinds_at path (codes "columns") d) _ schema e3 (λ kinds are e4.
+    came (key_in (length kinds) path d) _ schema e4 (λ key keyed e5.
+    came (replicated_in (is_some key) path d) _ schema e5 (λ replicated _ e6.
+    let made : Schema = record { name = name; kinds = kinds; place = placing key replicated } in
+    let columns = found kinds_at path (codes "columns") d kinds are (λ v e7. kinds_length (member (codes "columns") ∷ path) v kinds e7) in
+    subst IsTable (same_Ok made schema e6) (record { columns = columns; place = is_placed (length kinds) path d key replicated keyed })))))))
+
 table_keeps : (names : List (List ℕ)) (path : List Step) (d : Data) (table : Table) → table_at names path d ≡ Ok table → KeepsLimits table
 table_keeps names path d table e =
-    let made : List ℕ → List Kind → Option (List ℕ) → Bool → List (List Value) → Table = λ name kinds key replicated rows. record { schema = record { name = name; kinds = kinds; place = placing key replicated }; rows = rows } in
-    came (object_at path d) (λ ms. only path (codes "name" ∷ codes "columns" ∷ codes "key" ∷ codes "replicated" ∷ codes "rows" ∷ []) ms >>= λ _. needed (new_name_at names) path (codes "name") d >>= λ name. needed kinds_at path (codes "columns") d >>= λ kinds. key_in (length kinds) path d >>= λ key. replicated_in (is_some key) path d >>= λ replicated. needed (rows_at kinds) path (codes "rows") d >>= λ rows. Ok (made name kinds key replicated rows)) table e (λ ms _ e1.
-    came (only path (codes "name" ∷ codes "columns" ∷ codes "key" ∷ codes "replicated" ∷ codes "rows" ∷ []) ms) (λ _. needed (new_name_at names) path (codes "name") d >>= λ name. needed kinds_at path (codes "columns") d >>= λ kinds. key_in (length kinds) path d >>= λ key. replicated_in (is_some key) path d >>= λ replicated. needed (rows_at kinds) path (codes "rows") d >>= λ rows. Ok (made name kinds key replicated rows)) table e1 (λ _ _ e2.
-    came (needed (new_name_at names) path (codes "name") d) (λ name. needed kinds_at path (codes "columns") d >>= λ kinds. key_in (length kinds) path d >>= λ key. replicated_in (is_some key) path d >>= λ replicated. needed (rows_at kinds) path (codes "rows") d >>= λ rows. Ok (made name kinds key replicated rows)) table e2 (λ name _ e3.
-    came (needed kinds_at path (codes "columns") d) (λ kinds. key_in (length kinds) path d >>= λ key. replicated_in (is_some key) path d >>= λ replicated. needed (rows_at kinds) path (codes "rows") d >>= λ rows. Ok (made name kinds key replicated rows)) table e3 (λ kinds are e4.
-    came (key_in (length kinds) path d) (λ key. replicated_in (is_some key) path d >>= λ replicated. needed (rows_at kinds) path (codes "rows") d >>= λ rows. Ok (made name kinds key replicated rows)) table e4 (λ key keyed e5.
-    came (replicated_in (is_some key) path d) (λ replicated. needed (rows_at kinds) path (codes "rows") d >>= λ rows. Ok (made name kinds key replicated rows)) table e5 (λ replicated _ e6.
-    came (needed (rows_at kinds) path (codes "rows") d) (λ rows. Ok (made name kinds key replicated rows)) table e6 (λ rows told e7.
-    let columns = found kinds_at path (codes "columns") d kinds are (λ v e8. kinds_length (member (codes "columns") ∷ path) v kinds e8) in
-    let widths = found (rows_at kinds) path (codes "rows") d rows told (λ v e8. rows_are_wide kinds (member (codes "rows") ∷ path) v rows e8) in
-    let values = found (rows_at kinds) path (codes "rows") d rows told (λ v e8. rows_fit kinds (member (codes "rows") ∷ path) v rows e8) in
-    subst KeepsLimits (same_Ok (made name kinds key replicated rows) table e7) (record { columns = columns; place = is_placed (length kinds) path d key replicated keyed }, widths, values))))))))
+    came (schema_at names path d) _ table e (λ schema is e1.
+    came (needed (rows_at schema.kinds) path (codes "rows") d) _ table e1 (λ rows told e2.
+    let made : Table = record { schema = schema; rows = rows } in
+    let widths = found (rows_at schema.kinds) path (codes "rows") d rows told (λ v e3. rows_are_wide schema.kinds (member (codes "rows") ∷ path) v rows e3) in
+    let values = found (rows_at schema.kinds) path (codes "rows") d rows told (λ v e3. rows_fit schema.kinds (member (codes "rows") ∷ path) v rows e3) in
+    subst KeepsLimits (same_Ok made table e2) (schema_keeps names path d schema is, widths, values)))
 
 tables_keep : (before : List Table) (path : List Step) (i : ℕ) (ds : Items) (tables : List Table) → AllByRecursion KeepsLimits before → tables_from before path i ds ≡ Ok tables → AllByRecursion KeepsLimits tables × (length tables ≡ length before + items_len ds)
 tables_keep before path i no_items tables all e =

@@ -32,7 +32,7 @@ use Rattle.pl_read.specs.Values.{number_at, counted, array_at, each}
 use Rattle.pl_read.specs.Exprs.{integer_in}
 use Rattle.pl_read.specs.Rows.{datum_at, data_from, row_of, row_at, rows_from, rows_at}
 use Rattle.pl_read.specs.Settings.{settings_in}
-use Rattle.pl_read.specs.Tables.{new_name_at, kinds_at, key_in, replicated_in, placing, names_of, table_at, tables_from, tables_at}
+use Rattle.pl_read.specs.Tables.{new_name_at, kinds_at, key_in, replicated_in, placing, names_of, schema_at, table_at, tables_from, tables_at}
 use Rattle.pl_read.specs.Nodes.{plans_at}
 use Rattle.pl_read.specs.Documents.{document_at, value_of, reading}
 use Rattle.pl_read.specs.Limits.{HasShortTexts}
@@ -144,16 +144,11 @@ IsShortTable n table = AreShortRows n table.rows
 
 table_short : (n : ℕ) (names : List (List ℕ)) (p : List Step) (d : Data) (table : Table) → HasShort n d → table_at names p d ≡ Ok table → IsShortTable n table
 table_short n names p d table short e =
-    came (object_at p d) _ table e (λ ms _ e1.
-    came (only p (codes "name" ∷ codes "columns" ∷ codes "key" ∷ codes "replicated" ∷ codes "rows" ∷ []) ms) _ table e1 (λ _ _ e2.
-    came (needed (new_name_at names) p (codes "name") d) _ table e2 (λ name _ e3.
-    came (needed kinds_at p (codes "columns") d) _ table e3 (λ kinds _ e4.
-    came (key_in (length kinds) p d) _ table e4 (λ key _ e5.
-    came (replicated_in (is_some key) p d) _ table e5 (λ replicated _ e6.
-    came (needed (rows_at kinds) p (codes "rows") d) _ table e6 (λ rows told e7.
-    let made : Table = record { schema = record { name = name; kinds = kinds; place = placing key replicated }; rows = rows } in
-    let all = found_short n (rows_at kinds) p (codes "rows") d rows short told (λ v is e8. rows_short n kinds (path.member (codes "rows") ∷ p) v rows is e8) in
-    subst (IsShortTable n) (same_Ok made table e7) all)))))))
+    came (schema_at names p d) _ table e (λ schema _ e1.
+    came (needed (rows_at schema.kinds) p (codes "rows") d) _ table e1 (λ rows told e2.
+    let made : Table = record { schema = schema; rows = rows } in
+    let all = found_short n (rows_at schema.kinds) p (codes "rows") d rows short told (λ v is e3. rows_short n schema.kinds (path.member (codes "rows") ∷ p) v rows is e3) in
+    subst (IsShortTable n) (same_Ok made table e2) all))
 
 tables_short_from : (n : ℕ) (before : List Table) (p : List Step) (i : ℕ) (ds : Items) (tables : List Table) → AllByRecursion (IsShortTable n) before → ItemsShort n ds
     → tables_from before p i ds ≡ Ok tables → AllByRecursion (IsShortTable n) tables

@@ -8,6 +8,7 @@ use Rattle.ic_base.specs.Settings.{is_within}
 use Rattle.ic_row.specs.declared.value.Kind.{Kind}
 use Rattle.ic_row.specs.declared.value.Kind.TheVariants.{Int, Chars}
 use Rattle.pl_tree.specs.declared.schema.Placing.{Placing}
+use Rattle.pl_tree.specs.declared.schema.Schema.{Schema}
 use Rattle.pl_tree.specs.declared.schema.Placing.TheVariants.{Keyed, Dealt, Everywhere}
 use Rattle.pl_read.specs.declared.table.Table.{Table}
 use Rattle.pl_read.specs.declared.fault.DocFault.{DocFault}
@@ -39,7 +40,7 @@ kind_of word = if bytes_eq word (codes "int") then Some Int else (if bytes_eq wo
 abbrev pub kind_at : List Step → Data → Result Kind DocFault
 kind_at path d = text_at path d >>= λ word. or_refused (kind_of word) path flaw.Kind
 
--- behind columns of these names
+-- after columns of these names
 abbrev pub column_at : List (List ℕ) → List Step → Data → Result (List ℕ × Kind) DocFault
 column_at names path d =
     pair_at path d >>= λ pair.
@@ -47,7 +48,7 @@ column_at names path d =
     kind_at (index 1 ∷ path) pair.1 >>= λ kind.
     Ok (name, kind)
 
--- the columns from number i on, behind columns of these names and kinds
+-- the columns from number i on, after columns of these names and kinds
 abbrev pub columns_from : List (List ℕ) → List Kind → List Step → ℕ → Items → Result (List Kind) DocFault
 columns_from names kinds path i no_items = Ok kinds
 columns_from names kinds path i (item d ds) =
@@ -64,7 +65,7 @@ key_column_at width before path d =
     position_at path d >>= λ column.
     if nat_lt column width && not (list_any (λ other. other == column) before) then Ok column else refused path flaw.Range
 
--- the columns from number i on, behind these
+-- the columns from number i on, after these
 abbrev pub key_from : ℕ → List ℕ → List Step → ℕ → Items → Result (List ℕ) DocFault
 key_from width before path i no_items = Ok before
 key_from width before path i (item d ds) =
@@ -96,19 +97,24 @@ placing None false = Dealt
 abbrev pub names_of : List Table → List (List ℕ)
 names_of tables = map (λ table. table.schema.name) tables
 
--- behind tables of these names
-abbrev pub table_at : List (List ℕ) → List Step → Data → Result Table DocFault
-table_at names path d =
+-- all but the rows, after tables of these names
+abbrev pub schema_at : List (List ℕ) → List Step → Data → Result Schema DocFault
+schema_at names path d =
     object_at path d >>= λ ms.
     only path (codes "name" ∷ codes "columns" ∷ codes "key" ∷ codes "replicated" ∷ codes "rows" ∷ []) ms >>= λ _.
     needed (new_name_at names) path (codes "name") d >>= λ name.
     needed kinds_at path (codes "columns") d >>= λ kinds.
     key_in (length kinds) path d >>= λ key.
     replicated_in (is_some key) path d >>= λ replicated.
-    needed (rows_at kinds) path (codes "rows") d >>= λ rows.
-    Ok (record { schema = record { name = name; kinds = kinds; place = placing key replicated }; rows = rows })
+    Ok (record { name = name; kinds = kinds; place = placing key replicated })
 
--- the tables from number i on, behind these
+abbrev pub table_at : List (List ℕ) → List Step → Data → Result Table DocFault
+table_at names path d =
+    schema_at names path d >>= λ schema.
+    needed (rows_at schema.kinds) path (codes "rows") d >>= λ rows.
+    Ok (record { schema = schema; rows = rows })
+
+-- the tables from number i on, after these
 abbrev pub tables_from : List Table → List Step → ℕ → Items → Result (List Table) DocFault
 tables_from before path i no_items = Ok before
 tables_from before path i (item d ds) =

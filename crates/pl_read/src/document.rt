@@ -10,11 +10,12 @@ ghost use Rattle.pl_read.specs.Documents as spec;
 ghost use Rattle.pl_read.specs.Limits.{IsDocument, HasShortTexts};
 
 use crate::fault::{DocNo, Flaw};
-use crate::member::{object_at, only, required};
+use crate::member::{object_at, only, required, taken};
 use crate::node::{Plans, plans_at};
+use crate::parse::{ParseNo, parse};
 use crate::place::Place;
 use crate::settings::settings_in;
-use crate::table::{Tables, tables_at};
+use crate::table::{Tables, tables_of};
 use crate::value::number_in;
 use ic_base::Settings;
 use serde_json::Value;
@@ -41,11 +42,11 @@ pub struct Document {
     pub queries: Plans,
 }
 
-fn tables_in(alloc: Global, place: Place<'_>, document: &Value) -> Result<Tables, DocNo>
-    ensures { Gives (λ x. x) result (needed tables_at (path_of place.entry) (codes "tables") (view document.now)) }
+fn tables_in(alloc: Global, place: Place<'_>, document: Value) -> Result<Tables, DocNo>
+    ensures { Gives (λ x. x) result (needed tables_at (path_of place.entry) (codes "tables") (view document)) }
 {
-    let tables = required(alloc, place, document, "tables")?;
-    tables_at(alloc, place.member("tables"), tables)
+    let tables = taken(alloc, place, document, "tables")?;
+    tables_of(alloc, place.member("tables"), tables)
 }
 
 fn queries_in(alloc: Global, place: Place<'_>, document: &Value) -> Result<Plans, DocNo>
@@ -55,25 +56,28 @@ fn queries_in(alloc: Global, place: Place<'_>, document: &Value) -> Result<Plans
     plans_at(alloc, place.member("queries"), queries)
 }
 
-fn document_at(alloc: Global, place: Place<'_>, value: &Value) -> Result<Document, DocNo>
-    ensures { Gives (λ x. x) result (spec.document_at (path_of place.entry) (view value.now)) }
+fn document_of(alloc: Global, place: Place<'_>, value: Value) -> Result<Document, DocNo>
+    ensures { Gives (λ x. x) result (spec.document_at (path_of place.entry) (view value)) }
 {
-    let members = object_at(alloc, place, value)?;
+    let members = object_at(alloc, place, &value)?;
     only(
         alloc,
         place,
         members,
         &["session", "segments", "settings", "tables", "queries"],
     )?;
-    let session = number_in(alloc, place, value, "session", 1, LAST_SESSION)?;
-    let segments = number_in(alloc, place, value, "segments", 1, MOST_SEGMENTS)?;
-    let settings = settings_in(alloc, place, value)?;
+    let session = number_in(alloc, place, &value, "session", 1, LAST_SESSION)?;
+    let segments = number_in(alloc, place, &value, "segments", 1, MOST_SEGMENTS)?;
+    let settings = settings_in(alloc, place, &value)?;
+    // Read while the value is whole, and judged after the tables, which take it apart.
+    let queries = queries_in(alloc, place, &value);
+    let tables = tables_in(alloc, place, value)?;
     Ok(Document {
         session: session as u32,
         segments: segments as u32,
         settings,
-        tables: tables_in(alloc, place, value)?,
-        queries: queries_in(alloc, place, value)?,
+        tables,
+        queries: queries?,
     })
 }
 
@@ -89,14 +93,9 @@ pub fn read_document(alloc: Global, bytes: &[u8]) -> Result<Document, DocNo>
     // Of fewer bytes than 2 ^ 32: no text of a row is too long to be spelled, for none is longer than the bytes.
     ensures texts { length bytes.now < 2 ^ 32 → IfOk result HasShortTexts }
 {
-    match Value::from_slice(alloc, bytes) {
-        Ok(value) => document_at(alloc, Place::Document, &value),
-        Err(e) => {
-            if e.is_memory() {
-                Err(DocNo::Memory)
-            } else {
-                Err(Place::Document.no(alloc, Flaw::NoJson))
-            }
-        }
+    match parse(alloc, bytes) {
+        Ok(value) => document_of(alloc, Place::Document, value),
+        Err(ParseNo::NoJson) => Err(Place::Document.no(alloc, Flaw::NoJson)),
+        Err(ParseNo::Memory) => Err(DocNo::Memory),
     }
 }

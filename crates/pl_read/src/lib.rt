@@ -3,7 +3,7 @@
 //!
 //! A program calls [`read_document`] once with all bytes of its input.
 //!
-//! Inside, each kind of value has one reader, which is given a `Place` and a value of JSON, and gives the value's
+//! Inside, the bytes are made a value of JSON, and then each kind of value has one reader, which is given a `Place` and a value of JSON, and gives the value's
 //! meaning or the first fault at or below that place: an object's unknown members first, then its members in the order
 //! of its kind, arrays by length and then item by item.
 //!
@@ -17,6 +17,8 @@ mod fault;
 mod list;
 mod member;
 mod node;
+mod numeral;
+mod parse;
 mod place;
 mod rows;
 mod settings;

@@ -3,6 +3,7 @@ ghost use Rattle.std.specs.Prelude.{◌≡◌, ◌<◌, map, option_map, IfOk};
 ghost use Rattle.std.specs.List.{list_any};
 ghost use Rattle.std.specs.Str.{bytes_eq};
 ghost use Rattle.serde_json.specs.Data.{depth};
+ghost use Rattle.serde_json.specs.Find.{get_member};
 ghost use Rattle.serde_json.specs.View.{view, members_view};
 ghost use Rattle.pl_read.specs.Paths.{path_of};
 ghost use Rattle.pl_read.specs.Faults.{Gives};
@@ -73,6 +74,31 @@ pub(crate) fn required<'v>(
     ensures shallower { IfOk result (λ value. depth (view value.now) < depth (view object.now)) }
 {
     match object.get(name) {
+        Some(value) => Ok(value),
+        None => Err(place.member(name).no(alloc, Flaw::Missing)),
+    }
+}
+
+fn removed(members: Map<String, Value>, name: &str) -> Option<Value>
+    ensures { option_map view result ≡ get_member name.now (members_view members.entries) }
+{
+    let mut members = members;
+    members.remove(name)
+}
+
+/// The member of this name out of the object, whose other members are freed.
+pub(crate) fn taken(
+    alloc: Global,
+    place: Place<'_>,
+    object: Value,
+    name: &str,
+) -> Result<Value, DocNo>
+    ensures { Gives view result (required (path_of place.entry) name.now (view object)) }
+{
+    let Value::Object(members) = object else {
+        return Err(place.member(name).no(alloc, Flaw::Missing));
+    };
+    match removed(members, name) {
         Some(value) => Ok(value),
         None => Err(place.member(name).no(alloc, Flaw::Missing)),
     }

@@ -8,10 +8,10 @@ ghost use Rattle.pl_read.specs.Faults.{Gives};
 ghost use Rattle.pl_read.specs.Tables as spec;
 
 use crate::fault::{DocNo, Flaw};
-use crate::member::{is_among, object_at, only, required};
+use crate::member::{is_among, object_at, only, required, taken};
 use crate::place::Place;
-use crate::rows::rows_at;
-use crate::value::{array_at, pair_at, position_at, text_at};
+use crate::rows::rows_of;
+use crate::value::{array_at, items_of, pair_at, position_at, text_at};
 use ic_base::Text;
 use ic_row::{Kind, Rows};
 use pl_tree::{Columns, Kinds, Placing, Schema};
@@ -65,7 +65,7 @@ fn kind_at(alloc: Global, place: Place<'_>, value: &Value) -> Result<Kind, DocNo
     }
 }
 
-// The name of a column behind columns of these names.
+// The name of a column after columns of these names.
 fn column_name_at<'v>(
     alloc: Global,
     place: Place<'_>,
@@ -83,7 +83,7 @@ fn column_name_at<'v>(
     }
 }
 
-// `[name, kind]`, behind columns of these names.
+// `[name, kind]`, after columns of these names.
 fn column_at<'v>(
     alloc: Global,
     place: Place<'_>,
@@ -125,7 +125,7 @@ fn is_in(column: u32, columns: &[u32]) -> bool
     columns.iter().any(|other| *other == column)
 }
 
-// The position of a column of a table that has so many, behind these of its key.
+// The position of a column of a table that has so many, after these of its key.
 fn key_column_at(
     alloc: Global,
     place: Place<'_>,
@@ -227,7 +227,7 @@ fn has_name(tables: &[Table], name: &str) -> bool
         .any(|table| table.schema.name.as_str() == name)
 }
 
-// The name of a table behind these.
+// The name of a table after these.
 #[tactic(auto, using(crate::proofs::NameLemmas::among_tables))]
 fn table_name_at<'v>(
     alloc: Global,
@@ -246,14 +246,14 @@ fn table_name_at<'v>(
     }
 }
 
-// A table behind these.
-fn table_at(
+// What a table's members say of it but its rows, after these tables.
+fn schema_at(
     alloc: Global,
     place: Place<'_>,
     value: &Value,
     tables: &[Table],
-) -> Result<Table, DocNo>
-    ensures { Gives (λ x. x) result (spec.table_at (spec.names_of tables.now) (path_of place.entry) (view value.now)) }
+) -> Result<Schema, DocNo>
+    ensures { Gives (λ x. x) result (spec.schema_at (spec.names_of tables.now) (path_of place.entry) (view value.now)) }
 {
     let members = object_at(alloc, place, value)?;
     only(
@@ -268,33 +268,41 @@ fn table_at(
     let kinds = kinds_at(alloc, place.member("columns"), columns)?;
     let key = key_in(alloc, place, value, kinds.len())?;
     let replicated = replicated_in(alloc, place, value, key.is_some())?;
-    let rows = required(alloc, place, value, "rows")?;
-    let rows = rows_at(alloc, place.member("rows"), rows, kinds.as_slice())?;
-    Ok(Table {
-        schema: Schema {
-            name: Text::from_string(String::from_str(alloc, name)?),
-            kinds,
-            place: placing(key, replicated),
-        },
-        rows,
+    Ok(Schema {
+        name: Text::from_string(String::from_str(alloc, name)?),
+        kinds,
+        place: placing(key, replicated),
     })
 }
 
-fn tables_of(alloc: Global, place: Place<'_>, values: &[Value]) -> Result<Tables, DocNo>
-    ensures { Gives (λ x. x) result (spec.tables_from [] (path_of place.entry) 0 (items_view values.now)) }
+// A table after these.
+fn table_of(alloc: Global, place: Place<'_>, value: Value, tables: &[Table]) -> Result<Table, DocNo>
+    ensures { Gives (λ x. x) result (spec.table_at (spec.names_of tables.now) (path_of place.entry) (view value)) }
+{
+    let schema = schema_at(alloc, place, &value, tables)?;
+    let rows = taken(alloc, place, value, "rows")?;
+    let rows = rows_of(alloc, place.member("rows"), rows, schema.kinds.as_slice())?;
+    Ok(Table { schema, rows })
+}
+
+fn tables_from(alloc: Global, place: Place<'_>, values: Vec<Value>) -> Result<Tables, DocNo>
+    ensures { Gives (λ x. x) result (spec.tables_from [] (path_of place.entry) 0 (items_view values.items)) }
 {
     let mut tables = Items::new(alloc);
-    for (at, value) in values.iter().enumerate() {
-        let table = table_at(alloc, place.item(at), value, tables.as_slice())?;
+    let mut left = values.into_iter();
+    let mut at = 0;
+    'tables: while let Some(value) = left.next() {
+        let table = table_of(alloc, place.item(at), value, tables.as_slice())?;
         tables.push(table)?;
+        at += 1;
     }
     Ok(tables)
 }
 
-/// At most 64 tables, no two of one name.
-pub(crate) fn tables_at(alloc: Global, place: Place<'_>, value: &Value) -> Result<Tables, DocNo>
-    ensures { Gives (λ x. x) result (spec.tables_at (path_of place.entry) (view value.now)) }
+/// At most 64 tables, no two of one name. Takes their value of JSON apart as it reads.
+pub(crate) fn tables_of(alloc: Global, place: Place<'_>, value: Value) -> Result<Tables, DocNo>
+    ensures { Gives (λ x. x) result (spec.tables_at (path_of place.entry) (view value)) }
 {
-    let values = array_at(alloc, place, value, 0, MOST_TABLES)?;
-    tables_of(alloc, place, values)
+    let values = items_of(alloc, place, value, 0, MOST_TABLES)?;
+    tables_from(alloc, place, values)
 }

@@ -1,5 +1,6 @@
 // Numbers, texts and arrays.
-ghost use Rattle.std.specs.Prelude.{◌≡◌, ◌≤◌, IfOk};
+ghost use Rattle.std.specs.Prelude.{◌≡◌, ◌≤◌, option_map, IfOk};
+ghost use Rattle.serde_json.specs.Find.{as_array};
 ghost use Rattle.serde_json.specs.View.{view, number_view, items_view};
 ghost use Rattle.pl_read.specs.Paths.{path_of};
 ghost use Rattle.pl_read.specs.Faults.{Gives};
@@ -108,6 +109,36 @@ pub(crate) fn array_at<'v>(
 {
     match value.as_array() {
         Some(items) if least <= items.len() && items.len() <= greatest => Ok(items.as_slice()),
+        Some(_) => Err(place.no(alloc, Flaw::Range)),
+        None => Err(place.no(alloc, Flaw::Kind)),
+    }
+}
+
+/// The items of an array, out of the value.
+pub(crate) fn array_of(value: Value) -> Option<Vec<Value>>
+    ensures { option_map (λ items. items_view items.items) result ≡ as_array (view value) }
+{
+    if let Value::Array(items) = value {
+        Some(items)
+    } else {
+        None
+    }
+}
+
+/// The items of an array that has so many, out of the value.
+#[tactic(auto, using(crate::proofs::NumberLemmas::length_of_items))]
+pub(crate) fn items_of(
+    alloc: Global,
+    place: Place<'_>,
+    value: Value,
+    least: usize,
+    greatest: usize,
+) -> Result<Vec<Value>, DocNo>
+    ensures { Gives (λ items. items_view items.items) result
+        (spec.array_at least greatest (path_of place.entry) (view value)) }
+{
+    match array_of(value) {
+        Some(items) if least <= items.len() && items.len() <= greatest => Ok(items),
         Some(_) => Err(place.no(alloc, Flaw::Range)),
         None => Err(place.no(alloc, Flaw::Kind)),
     }

@@ -1,7 +1,7 @@
 use super::*;
 use ic_base::Text;
 use ic_row::{Key, Kind};
-use sqlite_items::{Boxed, Items};
+use sqlite_items::Items;
 use std::alloc::{AllocError, Global};
 use std::test::*;
 
@@ -18,27 +18,17 @@ fn is_hashed(locus: &Locus, wanted: &[u32]) -> bool {
 
 #[test]
 fn columns_move_to_their_first_places(rt: HostRuntime) -> Result<(), Fail> {
-    let a = rt.alloc();
-    let both = hashed(a, &[2, 0])?;
-    assert!(rt; is_hashed(&moved_to(a, &[0, 2, 0, 2], &both)?, &[1, 0]));
-    assert!(rt; matches!(moved_to(a, &[2, 1], &both)?, Locus::Strewn));
-    assert!(rt; matches!(moved_to(a, &[], &Locus::Replicated)?, Locus::Replicated));
+    let both = hashed(rt.alloc(), &[2, 0])?;
+    let moved = moved_to(rt.alloc(), &[0, 2, 0, 2], &both)?;
+    assert!(rt; is_hashed(&moved, &[1, 0]));
     Ok(())
 }
 
 #[test]
-fn the_right_key_of_a_join_moves_behind_the_left_columns(rt: HostRuntime) -> Result<(), Fail> {
-    let a = rt.alloc();
-    let left = hashed(a, &[1])?;
-    let moved = joined_locus(a, 2, &Locus::Replicated, &hashed(a, &[1])?)?;
+fn the_right_key_of_a_join_moves_after_the_left_columns(rt: HostRuntime) -> Result<(), Fail> {
+    let right = hashed(rt.alloc(), &[1])?;
+    let moved = joined_locus(rt.alloc(), 2, &Locus::Replicated, &right)?;
     assert!(rt; is_hashed(&moved, &[3]));
-    assert!(rt; is_hashed(&joined_locus(a, 2, &left, &Locus::Replicated)?, &[1]));
-    assert!(rt;
-        matches!(
-            joined_locus(a, 2, &Locus::Entry, &Locus::Entry)?,
-            Locus::Entry
-        )
-    );
     Ok(())
 }
 
@@ -86,55 +76,21 @@ fn an_aggregate_gives_its_group_and_its_calls(rt: HostRuntime) -> Result<(), Fai
     Ok(())
 }
 
-#[test]
-fn tables_are_found_by_name_and_copied(rt: HostRuntime) -> Result<(), Fail> {
-    let a = rt.alloc();
-    let mut schemas = Items::new(a);
-    for name in ["t", "tt"] {
-        schemas.push(Schema {
-            name: text(a, name)?,
-            kinds: copy_kinds(a, &[Kind::Int])?,
-            place: Placing::Keyed(Items::from_slice(a, &[0])?),
-        })?;
-    }
-    let copies = copy_schemas(a, schemas.as_slice())?;
-    assert!(rt; all_fit(copies.as_slice()));
-    match schema_named(&text(a, "tt")?, copies.as_slice()) {
-        Some(schema) => {
-            assert_eq!(rt; schema.name.as_str(), "tt");
-            assert!(rt; is_hashed(&placed(a, &schema.place)?.copy(a)?, &[0]));
-        }
-        None => assert!(rt; false, "no table"),
-    }
-    assert!(rt; schema_named(&text(a, "u")?, copies.as_slice()).is_none());
-    Ok(())
+/// A table of one int, which is its key.
+fn table(alloc: Global, name: &str) -> Result<Schema, AllocError> {
+    Ok(Schema {
+        name: text(alloc, name)?,
+        kinds: copy_kinds(alloc, &[Kind::Int])?,
+        place: Placing::Keyed(Items::from_slice(alloc, &[0])?),
+    })
 }
 
 #[test]
-fn a_final_finds_its_partial_through_one_motion(rt: HostRuntime) -> Result<(), Fail> {
-    let a = rt.alloc();
-    let scan = Node::Scan {
-        table: text(a, "t")?,
-    };
-    let stage = Stage::Partial {
-        group: Items::from_slice(a, &[3])?,
-        calls: Items::from_slice(a, &[Call::Count])?,
-    };
-    let partial = Node::Agg {
-        stage,
-        child: Boxed::new(a, scan)?,
-    };
-    let one = Node::Broadcast {
-        child: Boxed::new(a, partial)?,
-    };
-    match partial_under(&one) {
-        Some(groups) => assert_eq!(rt; groups.group, [3].as_slice()),
-        None => assert!(rt; false, "no partial"),
-    }
-    let two = Node::Broadcast {
-        child: Boxed::new(a, one)?,
-    };
-    assert!(rt; partial_under(&two).is_none());
-    assert!(rt; Plan { root: two }.fits());
+fn a_copied_table_is_placed_by_its_key(rt: HostRuntime) -> Result<(), Fail> {
+    let table = table(rt.alloc(), "t")?;
+    let copies = copy_schemas(rt.alloc(), &[table])?;
+    let found = schema_named(&text(rt.alloc(), "t")?, copies.as_slice()).ok_or("t")?;
+    let locus = placed(rt.alloc(), &found.place)?.copy(rt.alloc())?;
+    assert!(rt; is_hashed(&locus, &[0]));
     Ok(())
 }

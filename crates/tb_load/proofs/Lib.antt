@@ -5,3 +5,4 @@ pub mod Looking
 pub mod Loaded
 pub mod Fitted
 pub mod Steps
+pub mod Taking

@@ -31,3 +31,7 @@ loaded_of document = map (spread_of document.segments) document.tables
 -- the tables as plans see them
 abbrev pub schemas_of : Document → List Schema
 schemas_of document = map (λ table. table.schema) document.tables
+
+-- the rows of each table
+abbrev pub wholes_of : Document → List (List Line)
+wholes_of document = map (λ table. table.rows) document.tables

@@ -12,8 +12,8 @@ use Rattle.tb_load.specs.Standing.{IsApart}
 -- the rows at each segment have their columns' kinds
 abbrev pub FittingRows : Type 0
 FittingRows =
-    (segments : ℕ) (schemas : List Schema) (tables : List Spread) (table : ℕ) (schema : Schema) (segment : ℕ)
-    → Fits segments schemas tables → slice_get schemas table ≡ Some schema → segment < segments
+    (segments : ℕ) (schemas : List Schema) (wholes : List (List Line)) (tables : List Spread) (table : ℕ) (schema : Schema) (segment : ℕ)
+    → Fits segments schemas wholes tables → slice_get schemas table ≡ Some schema → segment < segments
     → AllByRecursion (IsRowOf schema.kinds) (rows_at tables table (pos segment))
 
 -- the rows at all segments, one segment after another, are the rows in some order

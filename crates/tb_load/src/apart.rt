@@ -18,41 +18,45 @@ fn no_rows(alloc: Global, segments: u32) -> Result<Vec<Rows>, AllocError>
     Ok(parts)
 }
 
-// A copy of the row behind those of this segment.
-fn add(alloc: Global, parts: &mut Vec<Rows>, segment: u32, row: &Row) -> Result<(), AllocError>
+// The row after those of this segment.
+fn add(parts: &mut Vec<Rows>, segment: u32, row: Row) -> Result<(), AllocError>
     requires { segment < length parts.old.items }
     ensures { OnOk result (parts.new.items ≡ slice_set parts.old.items segment
-        (slice_index_or parts.old.items segment [] ++ row.now ∷ [])) }
+        (slice_index_or parts.old.items segment [] ++ row ∷ [])) }
 {
-    let row = row.copy(alloc)?;
     parts[segment as usize].push(row)
 }
 
-/// Each row at the segment that its values in these columns name. Copies each row once.
+/// Each row at the segment that its values in these columns name. Moves the rows.
 pub(crate) fn by_key(
     alloc: Global,
-    rows: &[Row],
+    rows: Rows,
     columns: &[u32],
     segments: u32,
 ) -> Result<Items<Rows>, AllocError>
     requires { 0 < segments }
-    ensures { IfOk result (λ parts. parts ≡ parts_of (Keyed columns.now) segments rows.now) }
+    ensures { IfOk result (λ parts. parts ≡ parts_of (Keyed columns.now) segments rows) }
 {
     let mut parts = no_rows(alloc, segments)?;
-    for row in rows {
-        add(alloc, &mut parts, segment_of(row, columns, segments), row)?;
+    let mut left = rows.into_vec().into_iter();
+    'rows: while let Some(row) = left.next() {
+        let segment = segment_of(&row, columns, segments);
+        add(&mut parts, segment, row)?;
     }
     Ok(Items::from_vec(parts))
 }
 
-/// Row i, from 0, at segment i modulo their number. Copies each row once.
-pub(crate) fn in_turn(alloc: Global, rows: &[Row], segments: u32) -> Result<Items<Rows>, AllocError>
+/// Row i, from 0, at segment i modulo their number. Moves the rows.
+pub(crate) fn in_turn(alloc: Global, rows: Rows, segments: u32) -> Result<Items<Rows>, AllocError>
     requires { 0 < segments }
-    ensures { IfOk result (λ parts. parts ≡ parts_of Dealt segments rows.now) }
+    ensures { IfOk result (λ parts. parts ≡ parts_of Dealt segments rows) }
 {
     let mut parts = no_rows(alloc, segments)?;
-    for (number, row) in rows.iter().enumerate() {
-        add(alloc, &mut parts, (number % segments as usize) as u32, row)?;
+    let mut left = rows.into_vec().into_iter();
+    let mut number = 0;
+    'rows: while let Some(row) = left.next() {
+        add(&mut parts, (number % segments as usize) as u32, row)?;
+        number += 1;
     }
     Ok(Items::from_vec(parts))
 }

@@ -9,7 +9,7 @@ use Rattle.pl_plan.specs.Kept.{given_with, Refuses}
 use Rattle.icq_top.specs.declared.stop.Stop.TheVariants.{Unsound}
 use Rattle.icq_top.specs.Judging.{refusal_from, judged_by}
 use Rattle.icq_top.proofs.FirstFaults.{one_judged, one_refused}
-use Rattle.icq_top.proofs.Taking.{head_and_rest, moved_one}
+use Rattle.tb_load.proofs.Taking.{head_and_rest, moved_one}
 use Rattle.icq_top.proofs.judging.judged.Goals as goal
 
 pub checked-requires-clause-plan : goal.checked-requires-clause-plan

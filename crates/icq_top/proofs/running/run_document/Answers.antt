@@ -4,7 +4,7 @@ use Rattle.pl_tree.specs.Trees.{tree_in}
 use Rattle.pl_tree.specs.Sizes.{IsPlan}
 use Rattle.pl_plan.specs.Kept.{given_with}
 use Rattle.pl_read.specs.declared.table.Table.{Table}
-use Rattle.tb_load.specs.Kept.{loaded_of, schemas_of}
+use Rattle.tb_load.specs.Kept.{loaded_of, schemas_of, wholes_of}
 use Rattle.gd_sim.specs.declared.feed.Feed.{Feed}
 use Rattle.gd_sim.specs.Plans.{feeds_of, Runs, IsRunOf}
 use Rattle.icq_top.specs.Outcome.{given_in, judged_in}
@@ -48,7 +48,7 @@ first_run-requires-clause-plans c =
       query_count = omega (arith, ap length c.new.ensures);
       queries = subst (AllByRecursion (λ plan. IsPlan (tree_in plan))) (sym c.new.ensures) tt;
     }) c.requires.texts in
-    subst (AllByRecursion (Runs d.segments d.settings c.in_ok-loaded.loaded)) (sym judged.0) (runs_all d c.in_ok-loaded.loaded c.in-Some.feeds.items (schemas_few d c.requires) fits are)
+    subst (AllByRecursion (Runs d.segments d.settings c.in_ok-loaded.loaded)) (sym judged.0) (runs_all d (wholes_of d) c.in_ok-loaded.loaded c.in-Some.feeds.items (schemas_few d c.requires) fits are)
 
 pub returns : goal.returns
 returns c =

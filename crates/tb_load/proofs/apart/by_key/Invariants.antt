@@ -1,7 +1,14 @@
-use Rattle.std.proofs.Common.{◌≡◌, take}
+use Rattle.std.proofs.Common.{◌≡◌, List, ◌++◌, length}
+use Rattle.std.specs.Vec.Iter.{into_iter_items}
 use Rattle.pl_tree.specs.declared.schema.Placing.TheVariants.{Keyed}
+use Rattle.pl_ops.specs.Rows.{Line}
 use Rattle.tb_load.specs.Kept.{parts_of}
 use Rattle.tb_load.proofs.apart.by_key.Given as goal
 
-abbrev pub invariant-loop-row : goal.invariant-loop-row
-invariant-loop-row l = l.parts.items ≡ parts_of (Keyed l.columns) l.segments (take l.row-index l.rows)
+-- those that were put stand in front of those that are left
+abbrev pub invariant-rows : goal.invariant-rows
+invariant-rows l =
+    (done : List Line) × (done ++ into_iter_items l.left ≡ l.fn.rows) × (l.parts.items ≡ parts_of (Keyed l.columns) l.segments done)
+
+abbrev pub decreases-rows : goal.decreases-rows
+decreases-rows l = length (into_iter_items l.left)

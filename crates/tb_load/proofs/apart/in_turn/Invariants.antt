@@ -1,7 +1,14 @@
-use Rattle.std.proofs.Common.{◌≡◌, take}
+use Rattle.std.proofs.Common.{◌≡◌, List, ◌++◌, length}
+use Rattle.std.specs.Vec.Iter.{into_iter_items}
 use Rattle.pl_tree.specs.declared.schema.Placing.TheVariants.{Dealt}
+use Rattle.pl_ops.specs.Rows.{Line}
 use Rattle.tb_load.specs.Kept.{parts_of}
 use Rattle.tb_load.proofs.apart.in_turn.Given as goal
 
-abbrev pub invariant-loop-number : goal.invariant-loop-number
-invariant-loop-number l = l.parts.items ≡ parts_of Dealt l.segments (take l.number l.rows)
+-- those that were put stand in front of those that are left
+abbrev pub invariant-rows : goal.invariant-rows
+invariant-rows l =
+    (done : List Line) × (done ++ into_iter_items l.left ≡ l.fn.rows) × (length done ≡ l.number) × (l.parts.items ≡ parts_of Dealt l.segments done)
+
+abbrev pub decreases-rows : goal.decreases-rows
+decreases-rows l = length (into_iter_items l.left)

@@ -5,4 +5,4 @@ use Rattle.tb_load.proofs.loading.spread.Goals as goal
 
 pub returns-in_default : goal.returns-in_default
 returns-in_default c =
-    ap Apart c.new.ensures ∙ kept_at_none c.args.table.now.schema.place c.args.segments c.args.table.now.rows c.if-segments-eq0.true c.in_default.not-Everywhere
+    ap Apart c.new.ensures ∙ kept_at_none c.args.table.schema.place c.args.segments c.args.table.rows c.if-segments-eq0.true c.in_default.not-Everywhere
