@@ -52,7 +52,7 @@ fault_among g (p ∷ ps) = fault_or p.number (first_rule (tests_at g p)) (fault_
 abbrev pub fault_of : Given → Tree → Option PlanFault
 fault_of g tree = fault_among g (places_in tree)
 
--- it is what judging a plan names, and there is none where the plan is sound
+-- it is what judging a plan names, and there is none if the plan is sound
 pub record FaultsAreFirst : Type 0 where
   pub fault : (g : Given) (tree : Tree) (fault : PlanFault) → IsFirstFault g tree fault → fault_of g tree ≡ Some fault
   pub sound : (g : Given) (tree : Tree) → IsSound g tree → fault_of g tree ≡ None
@@ -63,7 +63,7 @@ abbrev pub refusal_or : ℕ → Option PlanFault → Option Stop → Option Stop
 refusal_or query None later = later
 refusal_or query (Some fault) later = Some (Unsound query fault)
 
--- the first of these plans that has a fault, where the first has this number
+-- the first of these plans that has a fault, if the first has this number
 abbrev pub refusal_from : Given → ℕ → List Plan → Option Stop
 refusal_from g query [] = None
 refusal_from g query (plan ∷ plans) = refusal_or query (fault_of g (tree_in plan)) (refusal_from g (query + 1) plans)

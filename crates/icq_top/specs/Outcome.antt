@@ -38,7 +38,7 @@ given_in d = given_with (schemas_of d) d.segments d.settings
 abbrev pub is_gather_plan : Plan → Bool
 is_gather_plan plan = is_gather (tree_in plan)
 
--- a document whose plans are sound, where each is a gather without an order over a scan
+-- a document whose plans are sound, if each is a gather without an order over a scan
 abbrev pub run_end : Document → Result Document Stop
 run_end d = if list_all is_gather_plan d.queries then Ok d else Err NotBuilt
 
@@ -60,15 +60,15 @@ abbrev pub words_end : Option (List ℕ) → List ℕ → Result Document Stop
 words_end None bytes = Err Usage
 words_end (Some drops) bytes = bytes_end bytes
 
--- a document that runs, or why there is none, where nothing fails and memory serves
+-- a document that runs, or why there is none, if nothing fails and memory serves
 abbrev pub outcome : List (List ℕ) → List ℕ → Result Document Stop
 outcome words bytes = words_end (drops_of_words words) bytes
 
--- the bytes, where the source tells them, lead to this document
+-- the bytes, if the source tells them, lead to this document
 abbrev pub Reads : List (List ℕ) → Option (List ℕ) → Document → Type 0
 Reads words left d = IfSome left (λ bytes. (reading bytes ≡ Ok d) × (outcome words bytes ≡ Ok d))
 
--- they lead to this stop; a read fault and want of memory come otherwise
+-- they lead to this stop; a read fault and out of memory come otherwise
 abbrev pub Leads : List (List ℕ) → Option (List ℕ) → Stop → Type 0
 Leads words left Usage = IfSome left (λ bytes. outcome words bytes ≡ Err Usage)
 Leads words left ReadFault = Unit {0}
@@ -104,7 +104,7 @@ pub record Delivers (d : Document) (run : FirstRun) (tallies : List (List Tally)
   pub answers : (place : ℕ) (rows : List (List Value)) (ts : List Tally) → slice_get run.rows place ≡ Some rows → slice_get tallies place ≡ Some ts → Answers d run.histories place rows ts
 
 -- What a run has to write with a status: the rows and tallies of all queries, and 0; or those of the queries that are
--- over, and the line of the fault of the next; or the first lines of either, where memory ran out behind them.
+-- over, and the line of the fault of the next; or the first lines of either, if memory ran out after them.
 pub data RunWrites (run : FirstRun) (tallies : List (List Tally)) : ℕ → List ℕ → Type 0 where
   finished : run.fault ≡ None → RunWrites run tallies 0 (text_of run.rows tallies)
   faulted : (refusal : FirstNo) → run.fault ≡ Some refusal
@@ -130,7 +130,7 @@ abbrev pub Agrees : ℕ → Result Document Stop → Type 0
 Agrees status (Ok d) = IsRunStatus status
 Agrees status (Err stop) = status ≡ status_of_stop stop
 
--- why a status is answered: the words and the bytes alone give it, but for a read fault and want of memory, and for how a
+-- why a status is answered: the words and the bytes alone give it, but for a read fault and out of memory, and for how a
 -- run ends
 pub record HasCauses (words : List (List ℕ)) (left : Option (List ℕ)) (faults_old faults_new status : ℕ) : Type 0 where
   pub read : status ≡ 4 → Rose faults_old faults_new

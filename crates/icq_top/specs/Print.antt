@@ -16,7 +16,7 @@ WroteLines old new lines = (n : ℕ) × (n ≤ length lines) × Appends old new 
 abbrev pub query_lines : List (List Value) → List Tally → List (List ℕ)
 query_lines rows tallies = map row_text rows ++ map tally_text tallies
 
--- the lines of all queries that are over, one query behind the other
+-- the lines of all queries that are over, one query after the other
 abbrev pub lines_of : List (List (List Value)) → List (List Tally) → List (List ℕ)
 lines_of [] tallies = []
 lines_of (rows ∷ more) [] = []

@@ -1,7 +1,7 @@
 -- Steps that may come to nothing.
 use Rattle.std.specs.Prelude.{Option, option_and_then}
 
--- the next step, where this one came to something
+-- the next step, if this one came to something
 infixl 10 ◌>>=◌
 abbrev pub ◌>>=◌ : {A B : Type 0} → Option A → (A → Option B) → Option B
 o >>= f = option_and_then f o

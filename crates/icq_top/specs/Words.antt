@@ -49,7 +49,7 @@ drops_after [] = Some []
 drops_after (word ∷ []) = drop_text word >>= drops_in
 drops_after (word ∷ more ∷ words) = None
 
--- the sends that are lost by the words of `sim`, where the words are such
+-- the sends that are lost by the words of `sim`, if the words are such
 abbrev pub drops_of_words : List (List ℕ) → Option (List ℕ)
 drops_of_words [] = None
 drops_of_words (command ∷ words) = if bytes_eq command (codes "sim") then drops_after words else None

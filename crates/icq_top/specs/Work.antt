@@ -59,7 +59,7 @@ GivesDocument left (Err NotBuilt) = ⊥
 
 -- ---- judging
 
--- the plans as they were judged, where none is refused, or the first refusal
+-- the plans as they were judged, if none is refused, or the first refusal
 abbrev pub JudgesAll : Given → List Plan → Result (List Judged) Stop → Type 0
 JudgesAll g plans (Ok judged) = (judged ≡ map (judged_by g) plans) × (refusal_from g 1 plans ≡ None)
 JudgesAll g plans (Err (Unsound query fault)) = refusal_from g 1 plans ≡ Some (Unsound query fault)
@@ -118,7 +118,7 @@ pub record AreAnswers (ran : Ran) (answers : List Answer) : Type 0 where
   pub rows : map rows_in answers ≡ ran.run.rows
   pub told : (place : ℕ) (a : Answer) → slice_get answers place ≡ Some a → HasTallies ran place a
 
--- Their lines were written, or a front of them. Where memory ran out it may be that there are no tallies, and nothing was
+-- Their lines were written, or a front of them. If memory ran out it may be that there are no tallies, and nothing was
 -- written.
 abbrev pub PrintsRun : Option (List ℕ) → Option (List ℕ) → Ran → Result (Unit {0}) PrintNo → Type 0
 PrintsRun old new ran (Ok u) = (answers : List Answer) × AreAnswers ran answers × Appends old new (concat (flat_map answer_lines answers))
@@ -134,18 +134,18 @@ pub record IsTold (May : ℕ → List ℕ → Type 0) (wrote_old wrote_new : Opt
 abbrev pub Says : ℕ → List ℕ → ℕ → List ℕ → Type 0
 Says status text s t = (s ≡ status) × (t ≡ text)
 
--- the line of a stop, or that of want of memory
+-- the line of a stop, or that of out of memory
 pub data StopWrites (stop : Stop) : ℕ → List ℕ → Type 0 where
   whole : StopWrites stop (status_of_stop stop) (error_text stop)
   memory : StopWrites stop 10 (error_text Memory)
 
--- behind the answers: nothing, the line of the fault, or that of want of memory
+-- after the answers: nothing, the line of the fault, or that of out of memory
 pub data EndWrites (run : FirstRun) : ℕ → List ℕ → Type 0 where
   nothing : run.fault ≡ None → EndWrites run 0 []
   fault : (refusal : FirstNo) → run.fault ≡ Some refusal → EndWrites run (status_of_fault refusal) (fault_text (length run.rows + 1) refusal)
   memory : EndWrites run 10 (error_text Memory)
 
--- all of it, with some tallies, or the line of want of memory where there are none
+-- all of it, with some tallies, or the line of out of memory if there are none
 pub data RanWrites (ran : Ran) : ℕ → List ℕ → Type 0 where
   all : (answers : List Answer) (status : ℕ) (text : List ℕ) → AreAnswers ran answers → RunWrites ran.run (map tallies_in answers) status text → RanWrites ran status text
   memory : RanWrites ran 10 (error_text Memory)

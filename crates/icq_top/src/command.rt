@@ -21,7 +21,7 @@ use std::alloc::Global;
 /// The most bytes that are read.
 const LIMIT: usize = 67108864;
 
-/// The line of want of memory, which takes none.
+/// The line of status 10, which takes no memory.
 const MEMORY: &[u8] = b"error 10 memory\n";
 
 /// The histories of a run, for whoever wants to read more from them than was printed.
@@ -101,7 +101,7 @@ fn tell<K: Sink>(sink: &mut K, text: &[u8], status: u8, ended: Option<Ended>) ->
     }
 }
 
-/// The answer to a stop, which is told by its line. Takes memory for the line; without that it is want of memory.
+/// The answer to a stop, which is told by its line. Takes memory for the line; without memory the status is 10.
 pub fn refuse<K: Sink>(alloc: Global, sink: &mut K, stop: &Stop) -> Report
     ensures told { IsTold (StopWrites stop.now) (K.wrote sink.old) (K.wrote sink.new) result.status }
     ensures failed { result.status ≡ 5 → Rose (K.count sink.old) (K.count sink.new) }
@@ -196,8 +196,8 @@ pub fn sim_command<S: Source, K: Sink>(
     ensures end { IsRunStatus result.status → IsAtEnd (S.left source.new) }
     ensures ended { (IsRunStatus result.status → ⊥) → result.ended ≡ None }
 
-    // 4 comes only where the source failed, and 10 freely. Each other status but 5 comes exactly where the words and
-    // the bytes lead to it, where the source tells its bytes; 0, 8, 9 and 12 where they lead to a run.
+    // 4 comes only if the source failed, and 10 freely. Each other status but 5 comes exactly if the words and
+    // the bytes lead to it, if the source tells its bytes; 0, 8, 9 and 12 if they lead to a run.
     ensures status { result.status ≢ 5 → HasCauses (map string_bytes words.now) (S.left source.old) (S.count source.old) (S.count source.new) result.status }
     ensures written { result.status ≢ 5 → IsWritten (map string_bytes words.now) (S.left source.old) (K.wrote sink.old) (K.wrote sink.new) result.status }
 

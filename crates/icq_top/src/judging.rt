@@ -16,7 +16,7 @@ use pl_read::{Plans, Table};
 use sqlite_items::Items;
 use std::alloc::{AllocError, Global};
 
-/// The first fault of a plan, as a function of the plan, is what judging it names; where there is none the plan is sound.
+/// The first fault of a plan, as a function of the plan, is what judging it names; if there is none the plan is sound.
 pub fn faults_are_first()
     ensures { FaultsAreFirst }
 {}

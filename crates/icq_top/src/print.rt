@@ -17,7 +17,7 @@ use std::alloc::AllocError;
 pub enum PrintNo {
     /// The sink failed. It may have taken a front of the line.
     Failed,
-    /// Want of memory, between two lines.
+    /// Out of memory, between two lines.
     Memory,
 }
 
@@ -77,7 +77,7 @@ fn print_answer<K: Sink>(
     }
 }
 
-/// Writes the rows and tallies of each query, one query behind the other.
+/// Writes the rows and tallies of each query, one query after the other.
 pub fn print_answers<K: Sink>(
     sink: &mut K,
     buffer: &mut String,

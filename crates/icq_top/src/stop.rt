@@ -23,7 +23,7 @@ pub enum Stop {
     Unsound { query: u32, fault: PlanFault },
     /// The document: a plan of its asks for more than this program runs yet.
     NotBuilt,
-    /// Want of memory.
+    /// Out of memory.
     Memory,
 }
 
@@ -56,7 +56,7 @@ impl Stop {
     }
 }
 
-/// The exit status where a run ends with a fault.
+/// The exit status if a run ends with a fault.
 pub(crate) fn fault_status(fault: &FirstNo) -> u8
     ensures { result ≡ status_of_fault fault.now }
 {

@@ -16,7 +16,7 @@ const MOST_DROPS: usize = 64;
 pub enum WordsNo {
     /// The caller: no command has these words.
     Usage,
-    /// Want of memory.
+    /// Out of memory.
     Memory,
 }
 
@@ -122,7 +122,7 @@ fn drop_text(word: &str) -> Option<&str>
 /// The sends that are lost by the words after the program's name: none by `sim`, those listed by `sim drop=1,3`.
 /// Every other list of words is no command.
 pub fn read_words(alloc: Global, words: &[String]) -> Result<Drops, WordsNo>
-    // Exactly where the words aren't `sim` and at most one word `drop`, the answer is Usage.
+    // Exactly if the words aren't `sim` and at most one word `drop`, the answer is Usage.
     ensures exact { Gives (λ d. d) result (drops_of_words (map string_bytes words.now)) }
 {
     match words {

@@ -21,7 +21,7 @@ value_of row (Int n) = value.Int n
 value_of row (Chars text) = value.Chars text
 value_of row Null = value.Null
 
--- numbers by size, whatever their width, and texts by bytes; there is no order where a side is null
+-- numbers by size, whatever their width, and texts by bytes; there is no order if a side is null
 abbrev pub order_of : Value → Value → Option Ordering
 order_of (value.Int a) (value.Int b) = Some (int_cmp a b)
 order_of (value.Int a) (value.Wide b) = Some (int_cmp a b)

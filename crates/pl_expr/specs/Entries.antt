@@ -10,7 +10,7 @@ pub data Entry : Type 0 where
   Other : Entry
   Read : Operand → Entry
 
--- several lists, one behind the other
+-- several lists, one after another
 abbrev pub in_turn : List (List Entry) → List Entry
 in_turn [] = []
 in_turn (x ∷ xs) = x ++ in_turn xs

@@ -1,4 +1,4 @@
--- A value as a comparison sees it, with a text where it lies.
+-- A value as a comparison sees it, with a text in place.
 use Rattle.std.specs.Prelude.{◌≡◌, ℤ, Bool, true, false, Option, Some, None}
 use Rattle.std.specs.declared.cmp.Ordering.{Ordering}
 use Rattle.ic_row.specs.declared.value.Value.{Value}

@@ -19,7 +19,7 @@ negation False = True
 negation Unknown = Unknown
 negation True = False
 
--- false where either is false, true where both are true, else unknown
+-- false if either is false, true if both are true, else unknown
 abbrev pub conjunction : Truth → Truth → Truth
 conjunction False b = False
 conjunction Unknown False = False
@@ -27,7 +27,7 @@ conjunction Unknown Unknown = Unknown
 conjunction Unknown True = Unknown
 conjunction True b = b
 
--- true where either is true, false where both are false, else unknown
+-- true if either is true, false if both are false, else unknown
 abbrev pub disjunction : Truth → Truth → Truth
 disjunction False b = b
 disjunction Unknown False = Unknown

@@ -1,4 +1,4 @@
--- Entries in turn, with the place behind the last one or the first flaw.
+-- Entries in turn, with the place after the last one or the first flaw.
 use Rattle.std.specs.Prelude.{ℕ, ◌+◌, Bool, if◌then◌else◌, List, [], ◌∷◌, Option, Some, None, Result, Ok, Err}
 use Rattle.ic_row.specs.declared.value.Kind.{Kind}
 use Rattle.pl_expr.specs.declared.typing.ExprFlaw.{ExprFlaw}

@@ -32,7 +32,7 @@ pub enum Operand {
 #[derive(Drop, Debug)]
 #[cycle(expr)]
 pub enum Expr {
-    /// Unknown where an operand is null.
+    /// Unknown if an operand is null.
     Compare {
         op: CompareOp,
         left: Operand,
@@ -107,7 +107,7 @@ fn size_of_all(parts: &[Expr]) -> usize
 }
 
 impl Expr {
-    /// How many expressions and operands it has, or the greatest number where there are more.
+    /// How many expressions and operands it has, or the greatest number if there are more.
     #[cycle(size)]
     pub fn size(&self) -> usize
         ensures { result ≡ min (length (entries_of self.now)) 18446744073709551615 }

@@ -11,7 +11,7 @@ use crate::truths::Truth;
 use ic_row::{Row, Value};
 use std::cmp::Ordering;
 
-/// A value as a comparison sees it, with a text where it lies.
+/// A value as a comparison sees it, with a text in place.
 #[derive(Clone, Copy)]
 enum Seen<'a> {
     Nothing,

@@ -29,7 +29,7 @@ impl Truth {
         }
     }
 
-    /// False where either is, and true where both are.
+    /// False if either is, and true if both are.
     pub fn and(self, other: Truth) -> Truth
         ensures { result ≡ conjunction self other }
     {
@@ -41,7 +41,7 @@ impl Truth {
         }
     }
 
-    /// True where either is, and false where both are.
+    /// True if either is, and false if both are.
     pub fn or(self, other: Truth) -> Truth
         ensures { result ≡ disjunction self other }
     {

@@ -118,7 +118,7 @@ fn walk_all(parts: &[Expr], kinds: &[Kind], place: u32) -> Result<u32, ExprFault
     Ok(reached)
 }
 
-/// The place behind the predicate, where it begins at this one.
+/// The place after the predicate, if it begins at this one.
 #[cycle(walk)]
 fn walk(expr: &Expr, kinds: &[Kind], place: u32) -> Result<u32, ExprFault>
     requires { place + length (entries_of expr.now) < 2 ^ 32 }

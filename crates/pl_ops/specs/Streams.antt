@@ -32,7 +32,7 @@ project_stream columns s = by_rows (project_rows columns) s
 abbrev pub sort_stream : List Key → Stream → Stream
 sort_stream keys s = at_end (sort_rows keys) s
 
--- an output has ended where its input has, or where the limit is satisfied
+-- an output has ended if its input has, or if the limit is satisfied
 abbrev pub limit_stream : ℕ → Stream → Stream
 limit_stream n s = record { rows = take n s.rows; ended = s.ended || nat_le n (length s.rows) }
 

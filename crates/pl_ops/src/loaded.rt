@@ -7,7 +7,7 @@ use ic_row::{Row, Rows};
 use sqlite_items::Items;
 use std::marker::Model;
 
-/// Where the rows of one table stand.
+/// How the rows of one table are spread.
 #[derive(Drop, Debug)]
 pub enum Spread {
     /// Those of segment 0, then those of segment 1, and so on.

@@ -42,7 +42,7 @@ pub record IsKept (j : Judged) (loci : List Locus) (slices : List ℕ) (motions 
   pub slices_are : slices ≡ slices_of (tree_in j.plan)
   pub motions_are : map (motion_in j.segments) motions ≡ motions_in_plan j.schemas j.segments (tree_in j.plan)
 
--- a refusal names the first fault, or is for want of memory
+-- a refusal names the first fault, or says that memory ran out
 abbrev pub Refuses : Given → Tree → PlanNo → Type 0
 Refuses g tree (Fault fault) = IsFirstFault g tree fault
 Refuses g tree Memory = Unit {0}

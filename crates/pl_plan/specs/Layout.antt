@@ -43,7 +43,7 @@ with_motion slice receivers senders a = record { slices = a.slices; motions = a.
 abbrev pub next_gang : List Locus → Layout → Gang
 next_gang loci a = gang_for (slice_get loci (length a.slices))
 
--- a node that stands in this slice with this gang, behind what was noted down; loci are those of all nodes in preorder
+-- a node that stands in this slice with this gang, after what was noted down; loci are those of all nodes in preorder
 abbrev pub laid : List Locus → ℕ → Gang → Tree → Layout → Layout
 laid loci slice gang (Scan t) a = with_node slice a
 laid loci slice gang (Filter e c) a = laid loci slice gang c (with_node slice a)

@@ -11,7 +11,7 @@ pub record Place : Type 0 where
 abbrev pub here : List Tree → ℕ → Tree → List Place
 here above n tree = record { number = n; above = above; node = tree } ∷ []
 
--- a node stands behind those below it, left before right
+-- a node stands after those below it, left before right
 abbrev pub postorder : List Tree → ℕ → Tree → List Place
 postorder above n (Scan t) = here above n (Scan t)
 postorder above n (Filter e c) = postorder (Filter e c ∷ above) (n + 1) c ++ here above n (Filter e c)

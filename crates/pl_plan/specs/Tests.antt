@@ -1,4 +1,4 @@
--- What is asked of a node, by cases of the node; each test says yes where a rule is broken.
+-- What is asked of a node, by cases of the node; each test says yes if a rule is broken.
 use Rattle.std.specs.Prelude.{ℕ, Bool, true, false, not, ◌&&◌, ◌||◌, ◌==◌, nat_lt, nat_le, slice_get, List, [], ◌∷◌, map, length, Option, Some, None}
 use Rattle.std.specs.Option.{option_map}
 use Rattle.std.specs.List.{list_any}

@@ -28,7 +28,7 @@ pub struct Facts {
     pub order: Keys,
     /// The loci of the nodes below it, from the last one in preorder to the first.
     pub below: Loci,
-    /// The number behind the last node below it.
+    /// The number after the last node below it.
     pub next: u32,
 }
 

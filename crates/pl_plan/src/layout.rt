@@ -163,7 +163,7 @@ fn lay_both(
     lay(right, loci, slice, gang, layout)
 }
 
-/// Notes down a node and those below it, behind what was noted down. It stands in this slice, on which this gang works;
+/// Notes down a node and those below it, after what was noted down. It stands in this slice, on which this gang works;
 /// the loci are those of all nodes in preorder.
 #[cycle(lay)]
 pub fn lay(

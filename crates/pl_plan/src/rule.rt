@@ -14,11 +14,11 @@ pub enum Rule {
     Column,
     /// 3: a comparison's or a pair's kinds differ, or a sum's column isn't int.
     ColumnKind,
-    /// 4: the rows of a join's sides don't stand where their pairs meet.
+    /// 4: the rows of a join's sides aren't at the segments at which their pairs meet.
     JoinLocus,
     /// 5: the rows of one group can stand at two places.
     AggLocus,
-    /// 6: a limit stops where the answer isn't whole yet.
+    /// 6: a limit stops before the answer is whole.
     LimitLocus,
     /// 7: a gather's order isn't the front of the order in which its child delivers.
     OrderMissing,

@@ -162,7 +162,7 @@ fn keep(
     })
 }
 
-/// The plan as a sound one, where it breaks no rule; else the first node in postorder that breaks one, and the least
+/// The plan as a sound one, if it breaks no rule; else the first node in postorder that breaks one, and the least
 /// rule that it breaks. A refused plan is dropped.
 ///
 /// Walks the plan twice: once from the leaves for what each node gives, and once from the root for slices and motions.
@@ -259,7 +259,7 @@ impl SoundPlan {
         }
     }
 
-    /// The segments that work on a slice, in their order: the dispatcher on slice 0, segment 0 alone where the slice
+    /// The segments that work on a slice, in their order: the dispatcher on slice 0, segment 0 alone if the slice
     /// sends what stands everywhere, and else every segment.
     pub fn gang(&self, alloc: Global, slice: u32) -> Result<Segs, AllocError>
         requires { slice < slices_in (tree_in self.now.plan) }
@@ -285,7 +285,7 @@ impl SoundPlan {
         Ok(ConnEnds::from_vec(ends))
     }
 
-    /// Where the rows of a node stand, which is named by its number in preorder from 0. Copies the locus.
+    /// The locus of a node, which is named by its number in preorder from 0. Copies the locus.
     pub fn locus(&self, alloc: Global, node: u32) -> Result<Locus, AllocError>
         requires { node < nodes_in (tree_in self.now.plan) }
         ensures { IfOk result (λ locus. option_map (locus_of self.now.schemas) (slice_get (preorder (tree_in self.now.plan)) node) ≡ Some locus) }

@@ -25,7 +25,7 @@ document_at path d =
     needed plans_at path (codes "queries") d >>= λ queries.
     Ok (record { session = session; segments = segments; settings = settings; tables = tables; queries = queries })
 
--- the value of JSON that bytes write, where they are text
+-- the value of JSON that bytes write, if they are text
 abbrev pub value_of : List ℕ → Option Data
 value_of bytes = if is_utf8 bytes then read bytes else None
 

@@ -72,7 +72,7 @@ tested_at path no_items = refused path Range
 tested_at path (item a no_items) = operand_at (index 1 ∷ path) a >>= λ x. Ok (expr.IsNull x)
 tested_at path (item a (item b ds)) = refused path Range
 
--- what a word makes of the items behind it, read as one expression and as at least one
+-- what a word makes of the items after it, read as one expression and as at least one
 abbrev pub applied : Operator → List Step → Items → Result Expr DocFault → Result (List Expr) DocFault → Result Expr DocFault
 applied (Compare op) path ds one some = compared_at op path ds
 applied And path ds one some = some >>= λ parts. Ok (expr.And parts)

@@ -27,7 +27,7 @@ abbrev pub or_refused : {A : Type 0} → Option A → List Step → Flaw → Res
 or_refused None path flaw = refused path flaw
 or_refused (Some x) path flaw = Ok x
 
--- what comes next is read where nothing was wrong before
+-- what comes next is read if nothing was wrong before
 infixl 10 ◌>>=◌
 abbrev pub ◌>>=◌ : {A B : Type 0} → Result A DocFault → (A → Result B DocFault) → Result B DocFault
 (Ok x) >>= f = f x

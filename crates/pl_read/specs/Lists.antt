@@ -72,7 +72,7 @@ bare_at Sum path = refused path Range
 bare_at Min path = refused path Range
 bare_at Max path = refused path Range
 
--- what stands behind the word
+-- what stands after the word
 abbrev pub called_at : Function → List Step → Items → Result Call DocFault
 called_at f path no_items = bare_at f path
 called_at f path (item d no_items) = position_at (index 1 ∷ path) d >>= λ c. Ok (call_of f c)

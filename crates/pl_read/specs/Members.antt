@@ -26,7 +26,7 @@ only path names (json.member name d ms) =
 abbrev pub required : List Step → List ℕ → Data → Result Data DocFault
 required path name d = or_refused (get name d) (member name ∷ path) Missing
 
--- the member of this name, read where it stands
+-- the member of this name, read in its place
 abbrev pub needed : {A : Type 0} → (List Step → Data → Result A DocFault) → List Step → List ℕ → Data → Result A DocFault
 needed read path name d = required path name d >>= read (member name ∷ path)
 
@@ -34,6 +34,6 @@ abbrev pub read_if_there : {A : Type 0} → (Data → Result A DocFault) → Opt
 read_if_there read None = Ok None
 read_if_there read (Some d) = read d >>= λ x. Ok (Some x)
 
--- the member of this name, read where it stands, if it is there
+-- the member of this name, read in its place, if it is there
 abbrev pub optional : {A : Type 0} → (List Step → Data → Result A DocFault) → List Step → List ℕ → Data → Result (Option A) DocFault
 optional read path name d = read_if_there (read (member name ∷ path)) (get name d)

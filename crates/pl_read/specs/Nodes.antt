@@ -153,7 +153,7 @@ abbrev mutual
       only path (names_of shape) ms >>= λ _.
       shaped shape path (object ms) (child_in path (codes "child") ms) (child_in path (codes "left") ms) (child_in path (codes "right") ms)
 
-  -- the member of this name, read as a node where it stands
+  -- the member of this name, read as a node in its place
   pub child_in : List Step → List ℕ → Members → Result Node DocFault
   child_in path name no_members = refused (member name ∷ path) Missing
   child_in path name (json.member l d ms) =

@@ -34,7 +34,7 @@ pub struct Document {
     pub session: u32,
     /// How many segments there are, 1..=64.
     pub segments: u32,
-    /// The default ones where the document has none.
+    /// The default ones if the document has none.
     pub settings: Settings,
     /// At most 64.
     pub tables: Tables,

@@ -123,7 +123,7 @@ fn one_at(alloc: Global, place: Place<'_>, parts: &[Value]) -> Result<Expr, DocN
     expr_at(alloc, place.item(1), part)
 }
 
-// The parts behind the word.
+// The parts after the word.
 #[cycle(expr)]
 fn parts_at(alloc: Global, place: Place<'_>, parts: &[Value]) -> Result<Exprs, DocNo>
     ensures { Gives (λ x. x) result (spec.parts_from (path_of place.entry) 1 (items_view parts.now)) }

@@ -6,7 +6,7 @@ ghost use Rattle.pl_read.specs.declared.fault.DocNo.TheVariants.{Memory};
 use ic_base::Text;
 use std::alloc::{AllocError, AllocFailed};
 
-/// The first thing that is wrong with a document: its code, and where it is.
+/// The first thing that is wrong with a document: its code, and at which place.
 ///
 /// | code | fault |
 /// |---|---|
@@ -30,7 +30,7 @@ pub struct DocFault {
 pub enum DocNo {
     /// Who wrote the document.
     Fault(DocFault),
-    /// Want of memory.
+    /// Out of memory.
     Memory,
 }
 

@@ -23,7 +23,7 @@ const LONGEST_LIST: usize = 1024;
 
 /// What a list of a plan is made of.
 pub(crate) trait Element: Drop {
-    /// What a value reads as that stands behind these steps.
+    /// What a value reads as that stands after these steps.
     ghost reading: { List Step → Data → Result Self DocFault };
 
     fn element_at(alloc: Global, place: Place<'_>, value: &Value) -> Result<Self, DocNo>
@@ -62,7 +62,7 @@ pub(crate) fn list_in<T: Element>(
     list_at(alloc, place.member(name), value, least, LONGEST_LIST)
 }
 
-/// The list of this name, where there is one.
+/// The list of this name, if there is one.
 pub(crate) fn list_if_there<T: Element>(
     alloc: Global,
     place: Place<'_>,
@@ -165,7 +165,7 @@ fn bare_at(alloc: Global, place: Place<'_>, function: Function) -> Result<Call, 
     }
 }
 
-// The call of a function whose column, if any, stands behind its word.
+// The call of a function whose column, if any, stands after its word.
 #[tactic(auto, using(crate::proofs::ListLemmas::called_long))]
 fn called_at(
     alloc: Global,

@@ -35,7 +35,7 @@ const MOST_PLANS: usize = 64;
 /// The plans of a document.
 pub type Plans = Items<Plan>;
 
-/// What a node is, by its word, and by its stage where it is an aggregate.
+/// What a node is, by its word, and by its stage if it is an aggregate.
 #[derive(Clone, Copy, Debug, PartialEq, Eq)]
 pub(crate) enum Shape {
     Scan,

@@ -5,7 +5,7 @@ ghost use Rattle.pl_read.specs.Rooms.{left_of};
 
 use pl_tree::Node;
 
-/// What is left of this room for nodes behind a plan, or `None` where it has more than fit. Looks at no more nodes than
+/// What is left of this room for nodes after a plan, or `None` if it has more than fit. Looks at no more nodes than
 /// there is room for, and one.
 pub(crate) fn room_after_node(node: &Node, room: u32) -> Option<u32>
     ensures { result ≡ left_of room (nodes_in (tree_of node.now)) }

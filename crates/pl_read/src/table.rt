@@ -34,7 +34,7 @@ const MOST_TABLES: usize = 64;
 /// A table of a document.
 #[derive(Drop, Debug)]
 pub struct Table {
-    /// Its name, the kinds of its columns, and where its rows stand.
+    /// Its name, the kinds of its columns, and the placing of its rows.
     pub schema: Schema,
     /// In the document's order. Each has a value for each column, of the column's kind or null.
     pub rows: Rows,

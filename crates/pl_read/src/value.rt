@@ -57,7 +57,7 @@ pub(crate) fn number_at(
     }
 }
 
-/// A text, where it lies.
+/// A text, in place.
 pub(crate) fn text_at<'v>(
     alloc: Global,
     place: Place<'_>,

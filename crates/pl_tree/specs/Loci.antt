@@ -1,4 +1,4 @@
--- Where a node's rows stand.
+-- The locus of a node.
 use Rattle.std.specs.Prelude.{ℕ, ◌+◌, List, map, Option, Some, None}
 use Rattle.pl_tree.specs.declared.schema.Schema.{Schema}
 use Rattle.pl_tree.specs.declared.schema.Placing.{Placing}
@@ -30,7 +30,7 @@ moved_to columns (Hashed a) = hashed_at (places_of a columns)
 moved_to columns Replicated = Replicated
 moved_to columns Strewn = Strewn
 
--- the right columns stand behind the left ones
+-- the right columns stand after the left ones
 abbrev pub behind : ℕ → List ℕ → List ℕ
 behind width columns = map (λ c. width + c) columns
 

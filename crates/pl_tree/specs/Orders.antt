@@ -1,4 +1,4 @@
--- The order in which a node delivers its rows, as sort keys; none at all where there are no keys.
+-- The order in which a node delivers its rows, as sort keys; none at all if there are no keys.
 use Rattle.std.specs.Prelude.{ℕ, Bool, List, [], ◌∷◌, Option, Some, None}
 use Rattle.ic_row.specs.declared.order.Key.{Key}
 use Rattle.pl_tree.specs.Trees.{Tree, Scan, Filter, Project, Limit, Sort, Join, Single, Partial, Final, Gather, Redistribute, Broadcast}

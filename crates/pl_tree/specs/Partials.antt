@@ -22,6 +22,6 @@ partial_under (Redistribute ks c) = partial_at c
 partial_under (Broadcast c) = partial_at c
 partial_under _ = None
 
--- group and calls that lie in memory, without where they lie
+-- group and calls that lie in memory, without their place in memory
 abbrev pub seen : Held → Groups
 seen held = record { group = held.group.now; calls = held.calls.now }

@@ -11,7 +11,7 @@ both (Some n) (Some ns) = Some (n ∷ ns)
 both (Some n) None = None
 both None ns = None
 
--- the first places of some columns, in their order, or None where one isn't there
+-- the first places of some columns, in their order, or None if one isn't there
 abbrev pub places_of : List ℕ → List ℕ → Option (List ℕ)
 places_of [] columns = Some []
 places_of (a ∷ more) columns = both (place_of a columns) (places_of more columns)

@@ -1,4 +1,4 @@
-//! Plans as trees, and what each node gives: its columns, where its rows stand and in which order they come. No rule is
+//! Plans as trees, and what each node gives: its columns, its locus (at which segments its rows are) and their order. No rule is
 //! judged here and nothing is run: a caller has the tree and the tables' schemas already.
 //!
 //! The calls compute what one node gives from what its children give, so a walk over a plan asks each once.

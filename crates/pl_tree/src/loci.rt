@@ -1,4 +1,4 @@
-// Where a node's rows stand.
+// The locus of a node.
 ghost use Rattle.std.specs.Prelude.{◌≡◌, ◌+◌, ◌<◌, ◌^◌, length, IfOk};
 ghost use Rattle.std.specs.List.{AllByRecursion};
 ghost use Rattle.pl_tree.specs.declared.schema.Locus.TheVariants.{Hashed};
@@ -26,7 +26,7 @@ pub(crate) fn place_of(column: u32, columns: &[u32]) -> Option<u32>
     None
 }
 
-/// The first places of some columns, or `None` where one isn't there.
+/// The first places of some columns, or `None` if one isn't there.
 fn places_of(alloc: Global, wanted: &[u32], columns: &[u32]) -> Result<Option<Columns>, AllocError>
     requires { length columns.now < 2 ^ 32 }
     ensures { IfOk result (λ x. x ≡ places.places_of wanted.now columns.now) }
@@ -48,7 +48,7 @@ pub fn hashed(alloc: Global, columns: &[u32]) -> Result<Locus, AllocError>
     Ok(Locus::Hashed(Items::from_slice(alloc, columns)?))
 }
 
-/// Where a table's rows stand.
+/// The locus of a table.
 pub fn placed(alloc: Global, place: &Placing) -> Result<Locus, AllocError>
     ensures { IfOk result (λ x. x ≡ spec.placed place.now) }
 {
@@ -59,7 +59,7 @@ pub fn placed(alloc: Global, place: &Placing) -> Result<Locus, AllocError>
     }
 }
 
-/// Where rows stand once these columns of theirs are all that is left: a hashed locus goes along to the columns' first
+/// The locus of rows once these columns of theirs are all that is left: a hashed locus goes along to the columns' first
 /// places, unless one of its columns is dropped.
 pub fn moved_to(alloc: Global, columns: &[u32], locus: &Locus) -> Result<Locus, AllocError>
     requires { length columns.now < 2 ^ 32 }
@@ -87,7 +87,7 @@ fn behind(alloc: Global, width: u32, columns: &[u32]) -> Result<Columns, AllocEr
     Ok(moved)
 }
 
-/// Where the rows of a join stand, whose left side has this many columns. Only what isn't replicated says where.
+/// The locus of a join whose left side has this many columns. Only a side that isn't replicated has a say.
 pub fn joined_locus(
     alloc: Global,
     width: u32,

@@ -30,11 +30,11 @@ pub enum Call {
     Count,
     /// How many values of a column aren't null.
     CountOf(u32),
-    /// Their sum, as a wide; null where there are none.
+    /// Their sum, as a wide; null if there are none.
     Sum(u32),
-    /// The least of them; null where there are none.
+    /// The least of them; null if there are none.
     Min(u32),
-    /// The greatest of them; null where there are none.
+    /// The greatest of them; null if there are none.
     Max(u32),
 }
 

@@ -13,10 +13,10 @@ pub type Kinds = Items<Kind>;
 /// The tables that plans name.
 pub type Schemas = Items<Schema>;
 
-/// Where the rows of some nodes stand.
+/// The loci of some nodes.
 pub type Loci = Items<Locus>;
 
-/// Where the rows of a table stand.
+/// The placing of a table's rows.
 #[derive(Drop, Debug)]
 pub enum Placing {
     /// Each at the segment that its values in these columns name.
@@ -35,7 +35,7 @@ pub struct Schema {
     pub place: Placing,
 }
 
-/// Where the rows that a node gives stand.
+/// The locus of a node.
 #[derive(Drop, Debug)]
 pub enum Locus {
     /// At the dispatcher alone.

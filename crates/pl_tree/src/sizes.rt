@@ -7,7 +7,7 @@ ghost use Rattle.pl_tree.specs.Sizes.{HasSizes, IsPlan, IsPlaced, IsTable, AreTa
 use crate::node::{Node, Plan, Stage};
 use crate::schema::{Placing, Schema};
 
-/// How many nodes there are, or the greatest number where there are more.
+/// How many nodes there are, or the greatest number if there are more.
 fn nodes(node: &Node) -> usize
     ensures { result ≡ min (nodes_in (tree_of node.now)) 18446744073709551615 }
 {

@@ -60,7 +60,7 @@ StandByKey document tables = OfEachTable document (λ number table. IsByKey tabl
 
 -- ---- nowhere else
 
--- none past the last segment, where the rows stand apart
+-- none past the last segment, of a table that isn't replicated
 abbrev pub IsNotPast : Placing → Document → List Spread → ℕ → Type 0
 IsNotPast (Keyed columns) document tables number = (segment : ℕ) → document.segments ≤ segment → rows_at tables number (pos segment) ≡ []
 IsNotPast Dealt document tables number = (segment : ℕ) → document.segments ≤ segment → rows_at tables number (pos segment) ≡ []

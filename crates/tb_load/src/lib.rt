@@ -1,4 +1,4 @@
-//! The rows of a document's tables, each put at the segments where its table's placing wants it. Nothing is read here, no
+//! The rows of a document's tables, each stored at the segments that its table's placing names. Nothing is read here, no
 //! plan is looked at, and no row moves once it stands.
 //!
 //! A program calls [`load`] once, after `read_document`, and hands the result down to whatever scans tables; that asks

@@ -12,7 +12,7 @@ use pl_tree::Placing;
 use sqlite_items::Items;
 use std::alloc::{AllocError, Global};
 
-// Where no segment is, no row is.
+// If no segment is, no row is.
 fn spread(alloc: Global, table: Table, segments: u32) -> Result<Spread, AllocError>
     ensures { IfOk result (λ x. x ≡ spread_of segments table) }
 {
@@ -40,12 +40,12 @@ fn spreads(alloc: Global, tables: Tables, segments: u32) -> Result<Items<Spread>
     Ok(spreads)
 }
 
-/// The rows of all tables, each where its table's placing wants it. The only error is out of memory.
+/// The rows of all tables, each at the segments that its table's placing names. The only error is out of memory.
 ///
 /// Goes over the rows once and moves each, so that none is there twice: a row of a table with a key or of a dealt one
 /// stands at one segment, and a table that stands everywhere is kept once for all segments.
 pub fn load(alloc: Global, document: Document) -> Result<Loaded, AllocError>
-    // A part for each segment, or all rows once where the table stands everywhere.
+    // A part for each segment, or all rows once if the table is replicated.
     ensures kept { IfOk result (λ loaded. loaded ≡ loaded_of document) }
     // At each segment just the rows that stand there, in the document's order.
     ensures rows { IfOk result (λ loaded. StandWherePlaced document loaded) }
