@@ -16,8 +16,6 @@ mod cutter;
 mod gatherer;
 mod laws;
 mod scanner;
-#[cfg(test)]
-mod tests;
 
 pub use course::{Course, Turned, WorkNo};
 pub use gatherer::Gatherer;
