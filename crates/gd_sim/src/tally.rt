@@ -171,7 +171,7 @@ fn is_rows(flags: Flags) -> bool
 }
 
 /// The number of the packet of rows of the connection that a datagram is, if it is one.
-#[tactic(auto, unfolding(ic_law::specs::Packets::packet_of))]
+#[tactic(auto, unfolding(ic_header::specs::Packets::packet_of))]
 fn number_in(datagram: &Datagram, key: &ConnKey) -> Option<u32>
     ensures { option_to_list result ≡ map number_of (rows_in key.now datagram.now) }
 {
