@@ -28,6 +28,13 @@ pub record Query : Type 0 where
 abbrev pub worker_at : Query → ℕ → ℤ → Worker
 worker_at q slice at = record { site = q.site; tree = q.tree; packet = q.settings.packet; slice = slice; at = at }
 
+-- the dispatcher's worker, of slice 0
+abbrev pub dispatcher : ℤ
+dispatcher = negsuc 0
+
+abbrev pub root_of : Query → Worker
+root_of q = worker_at q 0 dispatcher
+
 -- what the worker of a slice at a segment did, as its node's history has it: a run of the slice
 pub record IsWorked (q : Query) (nodes : List (List Entry)) (slice : ℕ) (at : ℤ) (c : Course) : Type 0 where
   pub log : calls_of c.steps ≡ log_of (ends_of (worker_at q slice at) q.session q.number) (history_of nodes at)
@@ -44,7 +51,7 @@ pub record DistributedRun (q : Query) (nodes : List (List Entry)) (courses : Cou
   pub network : NetworkLaw nodes
   pub hubs : (segment : ℤ) → HubLaw (place_at q.session segment q.settings) (history_of nodes segment)
   pub workers : (slice : ℕ) (at : ℤ) → Contains (gang_of q.site.schemas q.site.segments q.tree slice) at → IsWorked q nodes slice at (courses slice at)
-  pub rows_are : rows ≡ (courses 0 (negsuc 0)).let_out
+  pub rows_are : rows ≡ (courses 0 dispatcher).let_out
 
 -- the receiving end of a connection has all that it wants
 abbrev pub IsHeardOut : Query → List (List Entry) → Link → Type 0

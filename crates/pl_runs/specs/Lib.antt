@@ -8,3 +8,5 @@ pub mod Distributed
 pub mod Worked
 pub mod Lawful
 pub mod Unlawful
+pub mod WorkedLogs
+pub mod Laws

@@ -13,5 +13,5 @@ mod laws;
 mod unlawful;
 
 pub use lawful::{a_join_runs, a_limit_runs, a_merge_runs};
-pub use laws::the_check_is_the_run;
+pub use laws::{logs_are_of_workers, runs_give_the_output, the_check_is_the_run};
 pub use unlawful::{ends_are_judged, sends_are_judged, takes_are_judged};
