@@ -167,3 +167,14 @@ TwoAreTwo =
 -- all rows, but not in the order of the gather
 abbrev pub OrderCounts : Type 0
 OrderCounts = IsLawful schemas wholes merging (two (int 2) (letter 120) ∷ two (int 1) (letter 122) ∷ two (int 2) (letter 119) ∷ two Null (letter 121) ∷ []) → ⊥
+
+-- the first two rows in order, of which the second may be any of two equal ones
+abbrev pub AreTopTwo : Type 0
+AreTopTwo = IsLawful schemas wholes (topmost 2) (two (int 1) (letter 122) ∷ two (int 2) (letter 119) ∷ [])
+
+abbrev pub later : Line
+later = two (int 2) (letter 120)
+
+-- two rows in order, but the least one was left out
+abbrev pub LeastIsThere : Type 0
+LeastIsThere = IsLawful schemas wholes (topmost 2) (later ∷ two (int 2) (letter 119) ∷ []) → ⊥

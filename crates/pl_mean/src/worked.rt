@@ -1,5 +1,5 @@
 // Worked plans, each carried by a function that has nothing to run.
-ghost use Rattle.pl_mean.specs.Worked.{JoinMeans, JoinIsRouted, CountMeans, WaitsForHeads, GivesLeast, TiesFromLeast, GivesAsTaken, IsMerged, OrderCounts, AreAnyTwo, TwoAreTwo};
+ghost use Rattle.pl_mean.specs.Worked.{JoinMeans, JoinIsRouted, CountMeans, WaitsForHeads, GivesLeast, TiesFromLeast, GivesAsTaken, IsMerged, OrderCounts, AreAnyTwo, TwoAreTwo, AreTopTwo, LeastIsThere};
 
 /// Does nothing. Its clause: a join over a redistribute means the matches of whole tables.
 pub fn a_join_means_its_matches()
@@ -35,4 +35,11 @@ pub fn sorted_rows_answer_a_merge()
 pub fn any_rows_answer_a_limit()
     ensures lawful { AreAnyTwo }
     ensures unlawful { TwoAreTwo }
+{}
+
+/// Does nothing. Its clauses: under a limit with an order the first rows are a lawful answer, of equal ones any; and no
+/// row is left out that sorts before one that is there.
+pub fn first_rows_answer_a_top()
+    ensures lawful { AreTopTwo }
+    ensures unlawful { LeastIsThere }
 {}
