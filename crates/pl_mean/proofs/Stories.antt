@@ -8,7 +8,7 @@ use Rattle.ic_row.specs.Spelling.{int_spelling}
 use Rattle.pl_ops.specs.Rows.{Line, join_rows}
 use Rattle.pl_ops.specs.Groups.{grouped, joined_value, value_of_none, brought}
 use Rattle.pl_ops.specs.Routing.{routed}
-use Rattle.pl_mean.specs.Merging.{sorts_before}
+use Rattle.pl_ops.specs.Merging.{sorts_before}
 use Rattle.pl_mean.specs.Parts.{sent_by}
 use Rattle.pl_mean.specs.Worked.{JoinMeans, JoinIsRouted, CountMeans, WaitsForHeads, GivesLeast, TiesFromLeast, GivesAsTaken, IsMerged, OrderCounts, AreAnyTwo, TwoAreTwo, AreTopTwo, LeastIsThere, later, by_first, in_order, l_rows, two, int, letter}
 use Rattle.ic_row.specs.declared.value.Value.TheVariants.{Null}

@@ -7,7 +7,7 @@ use Rattle.pl_tree.specs.declared.schema.Schema.{Schema}
 use Rattle.pl_tree.specs.Trees.{Tree, Limit}
 use Rattle.pl_tree.specs.Orders.{order_of}
 use Rattle.pl_ops.specs.Rows.{Line}
-use Rattle.pl_mean.specs.Merging.{sorts_before}
+use Rattle.pl_ops.specs.Merging.{sorts_before}
 use Rattle.pl_mean.specs.Logical.{logical, meaning}
 
 -- all rows of a bag, in this order; with no keys in any order

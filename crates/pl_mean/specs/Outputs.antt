@@ -9,7 +9,7 @@ use Rattle.pl_tree.specs.Partials.{partial_under}
 use Rattle.pl_plan.specs.Motions.{gang_at}
 use Rattle.pl_ops.specs.Rows.{Line}
 use Rattle.pl_ops.specs.Streams.{Stream, at_end, filter_stream, project_stream, sort_stream, limit_stream, join_stream, aggregate_stream}
-use Rattle.pl_mean.specs.Merging.{sorts_before, merge_stream}
+use Rattle.pl_ops.specs.Merging.{sorts_before, merge_stream}
 use Rattle.pl_mean.specs.Parts.{Site, scanned, final_of}
 
 -- ---- what was taken

@@ -7,7 +7,7 @@ use Rattle.ic_chunk.specs.Chunks.{spelled}
 use Rattle.ic_chunk.specs.Cutting.{count_of}
 use Rattle.pl_ops.specs.Rows.{join_rows, sort_rows}
 use Rattle.pl_ops.specs.Routing.{routed}
-use Rattle.pl_mean.specs.Merging.{sorts_before}
+use Rattle.pl_ops.specs.Merging.{sorts_before}
 use Rattle.pl_runs.specs.Slices.{Worker}
 use Rattle.pl_runs.specs.Runs.{Course, SliceRun}
 use Rattle.pl_runs.specs.Checking.{is_run}

@@ -9,7 +9,8 @@ use Rattle.pl_tree.specs.Loci.{locus_of}
 use Rattle.pl_plan.specs.Motions.{gang_at}
 use Rattle.pl_ops.specs.Rows.{Line}
 use Rattle.pl_ops.specs.Streams.{Stream}
-use Rattle.pl_mean.specs.Merging.{sorts_before, left_after}
+use Rattle.pl_ops.specs.Merging.{sorts_before}
+use Rattle.pl_mean.specs.Merging.{left_after}
 use Rattle.pl_mean.specs.Parts.{Site}
 use Rattle.pl_mean.specs.Outputs.{Input, Inputs, stream_from, steps_in, out}
 use Rattle.pl_runs.specs.Steps.{Step, inputs_of}

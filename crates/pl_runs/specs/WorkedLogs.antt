@@ -43,6 +43,6 @@ logged slice = log_of (ends_of (worker pairs joining slice (pos 1)) 7 1) history
 abbrev pub WorkersApart : Type 0
 WorkersApart =
     (logged 1 ≡ record { ask = ask.Take 2; reply = reply.Refused port.Empty } ∷ record { ask = ask.Take 2; reply = reply.Gave parcel }
-      ∷ record { ask = ask.Put 1 dispatcher (7 ∷ []); reply = reply.Refused port.Stopped } ∷ record { ask = ask.Halt 2 (pos 1); reply = reply.Did } ∷ [])
+    ∷ record { ask = ask.Put 1 dispatcher (7 ∷ []); reply = reply.Refused port.Stopped } ∷ record { ask = ask.Halt 2 (pos 1); reply = reply.Did } ∷ [])
     × (logged 2 ≡ record { ask = ask.Put 2 (pos 1) (5 ∷ []); reply = reply.Did } ∷ record { ask = ask.Finish 2 (pos 0); reply = reply.Did } ∷ [])
     × (logged 0 ≡ [])
