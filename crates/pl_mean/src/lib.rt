@@ -12,5 +12,6 @@ mod worked;
 
 pub use worked::{
     a_join_means_its_matches, an_ordered_gather_waits, any_rows_answer_a_limit,
-    first_rows_answer_a_top,    rows_go_where_they_hash, sorted_rows_answer_a_merge, two_stages_mean_one,
+    first_rows_answer_a_top, rows_go_where_they_hash, sorted_rows_answer_a_merge,
+    two_stages_mean_one,
 };

@@ -1,5 +1,5 @@
 -- The seven points and their check.
-use Rattle.std.proofs.Common.{◌≡◌, ℕ, ℤ, ◌==◌, List, [], ◌∷◌, ◌++◌, Bool, true, false, not, ◌&&◌, ◌||◌, Option, Some, None, refl, ap, sym, ◌∙◌, subst}
+use Rattle.std.proofs.Common.{◌≡◌, ◌==◌, List, [], ◌∷◌, ◌++◌, Bool, true, not, ◌&&◌, Option, Some, None, refl, ap, sym, ◌∙◌, subst}
 use Rattle.std.specs.List.{list_all, AllByRecursion}
 use Rattle.std.specs.Cmp.Lexicographic.{pointwise}
 use Rattle.std.specs.Ordering.{int_eq}
@@ -10,7 +10,7 @@ use Rattle.pl_ops.specs.Rows.{Line}
 use Rattle.pl_runs.specs.Steps.{Step, sends_on, put_on, finishes, finished_on, stopped_on, is_halt, repeats}
 use Rattle.pl_runs.specs.Slices.{Worker, sending, receiving, output_of, chunks_for}
 use Rattle.pl_runs.specs.Wanting.{Want, FromAny, FromOne, want_in, wanted_by}
-use Rattle.pl_runs.specs.Runs.{Course, Every, PutsNext, EndsWith, FinishesLast, HaltsLate, LetsOut, IsOver, IsServed, TakesWanted, OnlyOnce, SliceRun, is_root, may_halt, is_sent, is_heard}
+use Rattle.pl_runs.specs.Runs.{Course, PutsNext, EndsWith, LetsOut, IsOver, IsServed, TakesWanted, SliceRun, is_root, may_halt, is_sent, is_heard}
 use Rattle.pl_runs.specs.Checking.{begins, same_row, if_so, every, puts_next, ends_with, finishes_last, halts_late, lets_out, is_over, only_once, is_this, is_served, takes_by, takes_wanted, is_run}
 use Rattle.pl_runs.proofs.Deciding.{both, joined, if_so-from, if_so-to, not-from, not-to, bytes_decide, chunks_decide, row_decide, rows_decide, begins-from, begins-to, all-from, all-to, every-from, every-to}
 

@@ -1,14 +1,10 @@
 -- Logs, and runs over all nodes.
-use Rattle.std.proofs.Common.{◌≡◌, List, [], ◌∷◌, ◌++◌, true, refl, ap, sym, ◌∙◌, append_assoc}
-use Rattle.std.specs.List.{flat_map}
+use Rattle.std.proofs.Common.{[], ◌∷◌, ◌++◌, refl, ap, sym, ◌∙◌, append_assoc}
 use Rattle.ic_law.proofs.Lists.{Contains-head}
 use Rattle.ic_base.specs.Keys.{key_eq}
-use Rattle.ic_base.specs.declared.keys.ConnEnd.{ConnEnd}
-use Rattle.ic_law.specs.declared.history.Entry.{Entry}
-use Rattle.pl_ops.specs.Rows.{Line}
 use Rattle.pl_runs.specs.Logs.{logs, log_of}
-use Rattle.pl_runs.specs.Distributed.{Query, Courses, DistributedRun, IsOver, dispatcher}
-use Rattle.pl_runs.specs.Laws.{LogGrows, AreAllOfRoot, RunsGiveTheOutput}
+use Rattle.pl_runs.specs.Distributed.{dispatcher}
+use Rattle.pl_runs.specs.Laws.{LogGrows, RunsGiveTheOutput}
 use Rattle.pl_runs.specs.WorkedLogs.{WorkersApart}
 
 pub log_grows : LogGrows

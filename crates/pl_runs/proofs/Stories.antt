@@ -9,7 +9,7 @@ use Rattle.pl_ops.specs.Rows.{join_rows, sort_rows}
 use Rattle.pl_ops.specs.Routing.{routed}
 use Rattle.pl_ops.specs.Merging.{sorts_before}
 use Rattle.pl_runs.specs.Slices.{Worker}
-use Rattle.pl_runs.specs.Runs.{Course, SliceRun}
+use Rattle.pl_runs.specs.Runs.{Course}
 use Rattle.pl_runs.specs.Checking.{is_run}
 use Rattle.pl_runs.specs.Lawful.{LimitRuns, EmptyLimitRuns, MergeRuns, JoinRuns}
 use Rattle.pl_runs.specs.Unlawful.{IsNoRun, DoneAtOnce, LimitGoesOn, HaltsEarly, AsksAgain, PutsOtherRows, FinishesEarly, LeavesOut, RoutesByGang, GivesOnEmpty, TakesUnwanted, TakesEarly}

@@ -1,17 +1,15 @@
 -- Worked runs that are lawful: a limit, a limit of none, an ordered gather, a join over a redistribute.
-use Rattle.std.specs.Prelude.{ℕ, ℤ, pos, true, false, List, [], ◌∷◌, Some, None}
+use Rattle.std.specs.Prelude.{ℕ, pos, true, false, List, [], ◌∷◌, Some, None}
 use Rattle.ic_base.specs.declared.port.PortNo.TheVariants.{Full}
 use Rattle.ic_base.specs.declared.port.PortAsk.TheVariants.{Take, TakeFrom}
 use Rattle.ic_row.specs.declared.value.Kind.TheVariants as kind
 use Rattle.ic_row.specs.declared.value.Value.TheVariants.{Null}
-use Rattle.pl_tree.specs.declared.node.Pair.{Pair}
 use Rattle.pl_tree.specs.declared.schema.Schema.{Schema}
 use Rattle.pl_tree.specs.declared.schema.Placing.TheVariants.{Dealt, Keyed}
 use Rattle.pl_tree.specs.Trees.{Tree, Scan, Limit, Sort, Join, Gather, Redistribute}
 use Rattle.pl_ops.specs.declared.loaded.Spread.TheVariants.{Apart}
 use Rattle.pl_ops.specs.Rows.{Line}
 use Rattle.pl_mean.specs.Parts.{Site}
-use Rattle.pl_runs.specs.Steps.{Step}
 use Rattle.pl_runs.specs.Runs.{SliceRun}
 use Rattle.pl_runs.specs.Worked.{int, letter, one, two, t, ints, site_with, by_first, dispatcher, worker, finally, put, put_refused, finish, finish_stopped, take, take_from, nothing_yet, halt}
 

@@ -4,7 +4,6 @@ use Rattle.std.specs.List.{list_all, AllByRecursion}
 use Rattle.ic_law.specs.Points.{IsPrefix}
 use Rattle.pl_plan.specs.Motions.{Link}
 use Rattle.pl_ops.specs.Rows.{Line}
-use Rattle.pl_mean.specs.Outputs.{Input}
 use Rattle.pl_runs.specs.Steps.{Step, sends_on, put_on, finishes, finished_on, stopped_on, input_of, is_halt, halted_from, repeats}
 use Rattle.pl_runs.specs.Slices.{Worker, sending, receiving, output_of, chunks_for}
 use Rattle.pl_runs.specs.Wanting.{Want, want_in, wanted_by, has_its_limit}

@@ -1,14 +1,11 @@
 -- Worked runs that are unlawful, each for one reason.
-use Rattle.std.specs.Prelude.{ℕ, ℤ, pos, true, false, List, [], ◌∷◌, Some, None}
+use Rattle.std.specs.Prelude.{pos, false, [], ◌∷◌, None}
 use Rattle.ic_base.specs.declared.port.PortNo.TheVariants.{Stopped}
 use Rattle.ic_base.specs.declared.port.PortAsk.TheVariants.{Take, TakeFrom}
 use Rattle.pl_tree.specs.Trees.{Tree, Scan, Join, Gather, Redistribute, Broadcast}
-use Rattle.pl_ops.specs.Rows.{Line}
-use Rattle.pl_mean.specs.Parts.{Site}
-use Rattle.pl_runs.specs.Steps.{Step}
 use Rattle.pl_runs.specs.Slices.{Worker}
 use Rattle.pl_runs.specs.Runs.{Course, SliceRun}
-use Rattle.pl_runs.specs.Worked.{int, letter, one, two, t, ints, site_with, dispatcher, worker, finally, so_far, put, put_refused, finish, finish_stopped, take, take_from, nothing_yet, halt}
+use Rattle.pl_runs.specs.Worked.{int, letter, one, two, t, dispatcher, worker, finally, so_far, put, put_refused, finish, finish_stopped, take, take_from, nothing_yet, halt}
 use Rattle.pl_runs.specs.Lawful.{eight, limited, lettered, merging, pairs, joining, match}
 
 -- it is no run of the worker's slice

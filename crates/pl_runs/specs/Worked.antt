@@ -1,5 +1,5 @@
 -- Plans, tables and calls of which worked runs are made: two segments, packets of 128 bytes.
-use Rattle.std.specs.Prelude.{ℕ, ℤ, pos, negsuc, Bool, true, false, List, [], ◌∷◌, ◌++◌, Option, Some, None}
+use Rattle.std.specs.Prelude.{ℕ, ℤ, pos, negsuc, Bool, true, false, List, [], ◌∷◌, ◌++◌}
 use Rattle.std.specs.List.{flat_map}
 use Rattle.ic_base.specs.declared.port.PortNo.{PortNo}
 use Rattle.ic_base.specs.declared.port.PortNo.TheVariants.{Stopped, Empty}
@@ -15,9 +15,8 @@ use Rattle.ic_row.specs.Spelling.{spelling_of}
 use Rattle.ic_chunk.specs.declared.chunk.ChunkKind.TheVariants.{Whole}
 use Rattle.ic_chunk.specs.Chunks.{chunk_of, spelled, end_of_stream}
 use Rattle.pl_tree.specs.declared.schema.Schema.{Schema}
-use Rattle.pl_tree.specs.declared.schema.Placing.{Placing}
 use Rattle.pl_tree.specs.declared.schema.Placing.TheVariants.{Dealt}
-use Rattle.pl_tree.specs.Trees.{Tree, Scan}
+use Rattle.pl_tree.specs.Trees.{Tree}
 use Rattle.pl_ops.specs.declared.loaded.Spread.TheVariants.{Apart}
 use Rattle.pl_ops.specs.Rows.{Line}
 use Rattle.pl_mean.specs.Parts.{Site}
