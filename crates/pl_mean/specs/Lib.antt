@@ -1,0 +1,6 @@
+pub mod Merging
+pub mod Parts
+pub mod Outputs
+pub mod Logical
+pub mod Answers
+pub mod Worked

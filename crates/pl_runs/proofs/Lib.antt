@@ -1,0 +1,4 @@
+pub mod Deciding
+pub mod Checked
+pub mod Stories
+pub mod Logged

@@ -1,0 +1,12 @@
+pub mod Steps
+pub mod Slices
+pub mod Wanting
+pub mod Runs
+pub mod Checking
+pub mod Logs
+pub mod Distributed
+pub mod Worked
+pub mod Lawful
+pub mod Unlawful
+pub mod WorkedLogs
+pub mod Laws
