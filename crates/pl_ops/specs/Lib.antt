@@ -2,6 +2,7 @@ pub mod Rows
 pub mod Groups
 pub mod Routing
 pub mod Streams
+pub mod Giving
 pub mod Merging
 pub mod Overflow
 pub mod Placed
