@@ -1,0 +1,15 @@
+pub mod InOrder
+pub mod Merges
+pub mod Firsts
+pub mod Gathers
+pub mod Ordering
+pub mod Sorting
+pub mod Fronts
+pub mod Shares
+pub mod Motions
+pub mod Nodes
+pub mod Cuts
+pub mod Tops
+pub mod Rules
+pub mod Growth
+pub mod Answered
