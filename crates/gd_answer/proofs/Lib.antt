@@ -1,0 +1,11 @@
+pub mod Ends
+pub mod Puts
+pub mod Takes
+pub mod Places
+pub mod Links
+pub mod Ended
+pub mod Came
+pub mod Pieces
+pub mod Sent
+pub mod Carried
+pub mod Running
