@@ -1,0 +1,5 @@
+mod Stable
+mod Sorting
+mod Turning
+mod Filtering
+mod Projecting
