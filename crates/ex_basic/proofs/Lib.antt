@@ -1,5 +1,5 @@
-mod Stable
-mod Sorting
-mod Turning
-mod Filtering
-mod Projecting
+pub mod Stable
+pub mod Sorting
+pub mod Turning
+pub mod Filtering
+pub mod Projecting

@@ -1,5 +1,5 @@
 -- What std's stable sort makes of rows is `sort_rows`.
-use Rattle.std.proofs.Common.{◌≡◌, ℕ, Bool, true, false, not, ◌&&◌, cond, if◌then◌else◌, List, [], ◌∷◌, length, filter, refl, sym, ap, ◌∙◌, subst, true≢false}
+use Rattle.std.proofs.Common.{◌≡◌, ℕ, suc, Bool, true, false, not, ◌&&◌, cond, if◌then◌else◌, List, [], ◌∷◌, length, filter, refl, sym, ap, ◌∙◌, subst, true≢false}
 use Rattle.std.specs.declared.cmp.Ordering.{Ordering}
 use Rattle.std.specs.declared.cmp.Ordering.TheVariants.{Less, Equal, Greater}
 use Rattle.std.specs.Ordering.{is_lt, is_le, ordering_reverse}
@@ -37,25 +37,20 @@ module _ (keys : List Key) where
 
   low_insert : (y row : Line) (rows : List Line) → precedes keys row y ≡ false → Low (precedes keys) y rows → Low (precedes keys) y (insert_row keys row rows)
   low_insert y row [] p low = (p, tt)
-  low_insert y row (other ∷ rows) p low = by (is_le (compare_by keys row other))
+  low_insert y row (other ∷ rows) p low = by (is_le (compare_by keys row other)) (low_insert y row rows p low.1)
     where
-      rest : Low (precedes keys) y (insert_row keys row rows)
-      rest = low_insert y row rows p low.1
-
-      by : (b : Bool) → Low (precedes keys) y (if b then row ∷ other ∷ rows else other ∷ insert_row keys row rows)
-      by true = (p, low.0, low.1)
-      by false = (low.0, rest)
+      by : (b : Bool) → Low (precedes keys) y (insert_row keys row rows) → Low (precedes keys) y (if b then row ∷ other ∷ rows else other ∷ insert_row keys row rows)
+      by true rest = (p, low)
+      by false rest = (low.0, rest)
 
   up_insert : (row : Line) (rows : List Line) → Up (precedes keys) rows → Up (precedes keys) (insert_row keys row rows)
   up_insert row [] u = (tt, tt)
-  up_insert row (other ∷ rows) u = by (is_le (compare_by keys row other)) refl
+  up_insert row (other ∷ rows) u = by (is_le (compare_by keys row other)) refl (up_insert row rows u.1)
     where
-      rest : Up (precedes keys) (insert_row keys row rows)
-      rest = up_insert row rows u.1
-
-      by : (b : Bool) → is_le (compare_by keys row other) ≡ b → Up (precedes keys) (if b then row ∷ other ∷ rows else other ∷ insert_row keys row rows)
-      by true e = let p = goes row other true e in ((p, low_all row other rows p u.0), u)
-      by false e = (low_insert other row rows ((order keys).one_way other row (goes row other false e)) u.0, rest)
+      by : (b : Bool) → is_le (compare_by keys row other) ≡ b → Up (precedes keys) (insert_row keys row rows)
+          → Up (precedes keys) (if b then row ∷ other ∷ rows else other ∷ insert_row keys row rows)
+      by true e rest = let p = goes row other true e in ((p, low_all row other rows p u.0), u)
+      by false e rest = (low_insert other row rows ((order keys).one_way other row (goes row other false e)) u.0, rest)
 
   pub sort_up : (rows : List Line) → Up (precedes keys) (sort_rows keys rows)
   unfolding sort_rows
@@ -84,15 +79,13 @@ module _ (keys : List Key) where
 
   insert_stable : (x row : Line) (rows : List Line) → filter (ties (precedes keys) x) (insert_row keys row rows) ≡ filter (ties (precedes keys) x) (row ∷ rows)
   insert_stable x row [] = refl
-  insert_stable x row (other ∷ rows) = by (is_le (compare_by keys row other)) refl
+  insert_stable x row (other ∷ rows) = by (is_le (compare_by keys row other)) refl (insert_stable x row rows)
     where
-      rest : filter (ties (precedes keys) x) (insert_row keys row rows) ≡ filter (ties (precedes keys) x) (row ∷ rows)
-      rest = insert_stable x row rows
-
       by : (b : Bool) → is_le (compare_by keys row other) ≡ b
+          → filter (ties (precedes keys) x) (insert_row keys row rows) ≡ filter (ties (precedes keys) x) (row ∷ rows)
           → filter (ties (precedes keys) x) (if b then row ∷ other ∷ rows else other ∷ insert_row keys row rows) ≡ filter (ties (precedes keys) x) (row ∷ other ∷ rows)
-      by true e = refl
-      by false e =
+      by true e rest = refl
+      by false e rest =
           ap (λ l. cond (ties (precedes keys) x other) (other ∷ l) l) rest
           ∙ exchanged (ties (precedes keys) x row) (ties (precedes keys) x other) row other (filter (ties (precedes keys) x) rows) (not_both x row other (goes row other false e))
 
@@ -113,14 +106,11 @@ module _ (keys : List Key) where
 
   insert_length : (row : Line) (rows : List Line) → length (insert_row keys row rows) ≡ length (row ∷ rows)
   insert_length row [] = refl
-  insert_length row (other ∷ rows) = by (is_le (compare_by keys row other))
+  insert_length row (other ∷ rows) = by (is_le (compare_by keys row other)) (insert_length row rows)
     where
-      rest : length (insert_row keys row rows) ≡ length (row ∷ rows)
-      rest = insert_length row rows
-
-      by : (b : Bool) → length (if b then row ∷ other ∷ rows else other ∷ insert_row keys row rows) ≡ length (row ∷ other ∷ rows)
-      by true = refl
-      by false = ap suc rest
+      by : (b : Bool) → length (insert_row keys row rows) ≡ length (row ∷ rows) → length (if b then row ∷ other ∷ rows else other ∷ insert_row keys row rows) ≡ length (row ∷ other ∷ rows)
+      by true rest = refl
+      by false rest = ap suc rest
 
   pub sort_length : (rows : List Line) → length (sort_rows keys rows) ≡ length rows
   unfolding sort_rows

@@ -1,8 +1,9 @@
 // The filter.
-ghost use Rattle.std.specs.Prelude.{◌≡◌, ◌<◌, ◌≤◌, ◌+◌, [], IfOk, IsOk};
+ghost use Rattle.std.specs.Prelude.{◌≡◌, ◌<◌, ◌≤◌, ◌+◌, [], ◌∷◌, option_to_list, IfOk, IsOk};
 ghost use Rattle.pl_expr.specs.declared.expr.Expr.{Expr as Predicate};
 ghost use Rattle.pl_ops.specs.declared.words.Next.TheVariants.{Wants};
 ghost use Rattle.pl_ops.specs.declared.words.Side.{Side as Sides};
+ghost use Rattle.pl_ops.specs.Rows.{filter_rows};
 ghost use Rattle.pl_ops.specs.Streams.{silent, filter_stream};
 ghost use Rattle.pl_ops.specs.Giving.{NextFalls};
 ghost use Rattle.ex_basic.specs.Single.{Answers, Given, Ended};
@@ -28,15 +29,28 @@ pub struct Filter {
 
 impl Model for Filter {
     ghost use Rattle.std.specs.Prelude.{option_to_list};
+    ghost use Rattle.std.specs.Coded.{codes};
+    ghost use Rattle.pl_expr.specs.contracts.expr.Expr as e;
     ghost use Rattle.ex_basic.specs.Filters.{Filtering};
 
     ghost Value = { Filtering };
 
+    ghost coded = { Prim.hlevel (codes, e.the_row.coded) };
+
     ghost view = { λ f. record { test = f.test; pending = option_to_list f.row; ended = f.ended } };
+}
+
+/// The row, if the predicate is true of it.
+#[tactic(auto, unfolding(pl_ops::specs::Rows::filter_rows))]
+fn kept(test: &Expr, row: Row) -> Option<Row>
+    ensures { option_to_list result ≡ filter_rows test.now (row ∷ []) }
+{
+    if holds(test, &row) { Some(row) } else { None }
 }
 
 impl Filter {
     /// A filter by this predicate.
+    #[tactic(auto, using(crate::proofs::Filtering::filtered_nothing))]
     pub fn new(test: Expr) -> Filter
         ensures { Gives test result silent [] }
     {
@@ -68,9 +82,7 @@ impl Filter {
         ensures work { work self.new ≤ work self.old + 1 }
         ensures ok { IsOk result }
     {
-        if holds(&self.test, &row) {
-            self.row = Some(row);
-        }
+        self.row = kept(&self.test, row);
         Ok(())
     }
 

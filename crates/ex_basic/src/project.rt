@@ -60,6 +60,7 @@ fn chosen(alloc: Global, columns: &[u32], row: &Row) -> Result<Row, AllocError>
 
 impl Project {
     /// A project of these columns, each by its position from 0. A column past a row's last one is null.
+    #[tactic(auto, using(crate::proofs::Projecting::projected_nothing))]
     pub fn new(columns: Columns) -> Project
         ensures gives { Gives columns result silent [] }
         ensures failed { result.failed ≡ false }

@@ -22,7 +22,7 @@ pub struct Scan<'a> {
 
 impl<'a> Model for Scan<'a> {
     ghost use Rattle.ex_basic.specs.Single.{Remembers};
-ghost use Rattle.ex_basic.specs.Scans.{Scanning};
+    ghost use Rattle.ex_basic.specs.Scans.{Scanning};
 
     ghost Value = { Scanning };
 

@@ -82,7 +82,10 @@ fn a_scan_copies_its_row_and_ends(rt: HostRuntime) -> Result<(), Fail> {
     let a = rt.alloc();
     let rows = vec![in a; line(a, &[Some(1), None])?]?;
     let mut scan = Scan::new(rows.as_slice());
-    assert_eq!(rt; numbers(a, scan.next(a)?)?.as_slice(), [Some(1), None].as_slice());
+    assert_eq!(rt;
+        numbers(a, scan.next(a)?)?.as_slice(),
+        [Some(1), None].as_slice()
+    );
     assert!(rt; matches!(scan.next(a)?, Next::End));
     Ok(())
 }
@@ -107,7 +110,10 @@ fn a_project_has_its_own_order_and_may_repeat_a_column(rt: HostRuntime) -> Resul
     let columns: Columns = Items::from_slice(a, &[1, 0, 1])?;
     let mut project = Project::new(columns);
     let answered = projected(a, &mut project, line(a, &[Some(5), Some(6)])?)?;
-    assert_eq!(rt; numbers(a, answered)?.as_slice(), [Some(6), Some(5), Some(6)].as_slice());
+    assert_eq!(rt;
+        numbers(a, answered)?.as_slice(),
+        [Some(6), Some(5), Some(6)].as_slice()
+    );
     Ok(())
 }
 
@@ -128,7 +134,9 @@ fn a_limit_to_no_rows_wants_none(rt: HostRuntime) -> Result<(), Fail> {
 }
 
 #[test]
-fn a_sort_going_down_puts_null_last_and_keeps_equal_rows_in_order(rt: HostRuntime) -> Result<(), Fail> {
+fn a_sort_going_down_puts_null_last_and_keeps_equal_rows_in_order(
+    rt: HostRuntime,
+) -> Result<(), Fail> {
     let a = rt.alloc();
     let down = Key {
         column: 0,
@@ -136,11 +144,21 @@ fn a_sort_going_down_puts_null_last_and_keeps_equal_rows_in_order(rt: HostRuntim
     };
     let keys: Keys = Items::from_slice(a, &[down])?;
     let mut sort = Sort::new(a, keys);
-    for given in [[None, Some(0)], [Some(1), Some(1)], [Some(2), Some(2)], [Some(1), Some(3)]] {
+    for given in [
+        [None, Some(0)],
+        [Some(1), Some(1)],
+        [Some(2), Some(2)],
+        [Some(1), Some(3)],
+    ] {
         gathered(a, &mut sort, line(a, &given)?)?;
     }
     ended(a, &mut sort)?;
-    for wanted in [[Some(2), Some(2)], [Some(1), Some(1)], [Some(1), Some(3)], [None, Some(0)]] {
+    for wanted in [
+        [Some(2), Some(2)],
+        [Some(1), Some(1)],
+        [Some(1), Some(3)],
+        [None, Some(0)],
+    ] {
         assert_eq!(rt; numbers(a, sort.next(a)?)?.as_slice(), wanted.as_slice());
     }
     assert!(rt; matches!(sort.next(a)?, Next::End));
