@@ -13,3 +13,4 @@ pub mod Tops
 pub mod Rules
 pub mod Growth
 pub mod Answered
+pub mod Stories

@@ -17,3 +17,4 @@ pub mod Scans
 pub mod Law
 pub mod Canon
 pub mod Each
+pub mod Stories
