@@ -4,6 +4,7 @@ pub mod Wanting
 pub mod Runs
 pub mod Checking
 pub mod Logs
+pub mod Apart
 pub mod Distributed
 pub mod Worked
 pub mod Lawful

@@ -4,6 +4,7 @@ ghost use Rattle.pl_runs.specs.Slices.{Worker};
 ghost use Rattle.pl_runs.specs.Runs.{Course, SliceRun};
 ghost use Rattle.pl_runs.specs.Checking.{is_run};
 ghost use Rattle.pl_runs.specs.Laws.{LogGrows, RunsGiveTheOutput};
+ghost use Rattle.pl_runs.specs.Apart.{SlicesAreApart};
 ghost use Rattle.pl_runs.specs.WorkedLogs.{WorkersApart};
 
 /// Does nothing. Its clauses: a run of a slice passes the check, and what passes it is a run.
@@ -17,6 +18,11 @@ pub fn the_check_is_the_run()
 pub fn logs_are_of_workers()
     ensures grows { LogGrows }
     ensures apart { WorkersApart }
+{}
+
+/// Does nothing. Its clause: the workers of two slices at one node have no connection end in common.
+pub fn slices_are_apart()
+    ensures { SlicesAreApart }
 {}
 
 /// Does nothing. Its clause: if the run of a query over all nodes is over, its rows are all of the root's output.
