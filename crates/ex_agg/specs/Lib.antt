@@ -1,0 +1,5 @@
+pub mod Calls
+pub mod Grouped
+pub mod Parts
+pub mod Aggs
+pub mod Inside
