@@ -1,5 +1,5 @@
 -- What a filter gives of its rows, row by row.
-use Rattle.std.proofs.Common.{◌≡◌, false, List, [], ◌∷◌, ◌++◌, refl, sym, ap, ◌∙◌, append-nil}
+use Rattle.std.proofs.Common.{◌≡◌, List, [], ◌∷◌, ◌++◌, refl, sym, ap, ◌∙◌, append-nil}
 use Rattle.std.proofs.lemmas.List.Elements.{filter-append}
 use Rattle.pl_expr.specs.declared.expr.Expr.{Expr}
 use Rattle.pl_expr.specs.Holding.{keeps}

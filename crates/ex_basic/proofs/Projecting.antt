@@ -1,5 +1,5 @@
 -- What a project gives of its rows, row by row.
-use Rattle.std.proofs.Common.{◌≡◌, ℕ, false, List, [], ◌∷◌, ◌++◌, refl, sym, ap, ◌∙◌, append-nil}
+use Rattle.std.proofs.Common.{◌≡◌, ℕ, List, [], ◌∷◌, ◌++◌, refl, sym, ap, ◌∙◌, append-nil}
 use Rattle.std.proofs.lemmas.List.{map-append}
 use Rattle.ic_row.specs.Values.{key_of}
 use Rattle.pl_ops.specs.declared.words.Side.{Side}

@@ -1,5 +1,5 @@
 -- How many steps a sort can make.
-use Rattle.std.proofs.Common.{◌≡◌, ℕ, ◌+◌, ◌<◌, Bool, true, false, List, length, refl, sym, arith, true≢false}
+use Rattle.std.proofs.Common.{◌≡◌, ◌+◌, ◌<◌, Bool, true, false, List, length, refl, sym, arith, true≢false}
 use Rattle.ic_row.specs.declared.order.Key.{Key}
 use Rattle.pl_ops.specs.declared.words.Side.{Side}
 use Rattle.pl_ops.specs.declared.words.Side.TheVariants.{Left, Right}

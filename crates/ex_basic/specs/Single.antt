@@ -1,7 +1,6 @@
 -- How an operator with one input behaves, whatever it was given and whatever it answered before. `Gives` says of a state
 -- that it was given this stream and has answered these rows; `output` is what the operator gives of a stream.
 use Rattle.std.specs.Prelude.{◌≡◌, Bool, true, false, List, [], ◌∷◌, ◌++◌, Result, MatchResult}
-use Rattle.pl_ops.specs.declared.words.Side.{Side}
 use Rattle.pl_ops.specs.declared.words.Side.TheVariants.{Left, Right}
 use Rattle.pl_ops.specs.declared.words.Next.{Next}
 use Rattle.pl_ops.specs.declared.words.Next.TheVariants.{Row, Wants, End}

@@ -16,6 +16,8 @@ pub record Sorting : Type 0 where
   pub kept : List Line
   -- whether it was told that no more rows come
   pub ended : Bool
+  -- whether it has sorted its rows
+  pub sorted : Bool
   -- whether it was refused memory
   pub failed : Bool
 

@@ -38,7 +38,13 @@ impl Model for Sort {
 
     ghost Value = { Sorting };
 
-    ghost view = { λ s. record { keys = s.keys; kept = kept_in s.sorted s.keys s.ended s.rows.items; ended = s.ended; failed = s.failed } };
+    ghost view = { λ s. record {
+      keys = s.keys;
+      kept = kept_in s.sorted s.keys s.ended s.rows.items;
+      ended = s.ended;
+      sorted = s.sorted;
+      failed = s.failed;
+    } };
 
     ghost invariant = { λ s. s.sorted ≡ true → s.ended ≡ true };
 }
@@ -90,8 +96,10 @@ impl Sort {
         ensures wants { IfOk result (λ next. (side : Sides) → next ≡ Wants side → IsWanting side self.new) }
         ensures falls { IfOk result (λ next. NextFalls next (work self.old) (work self.new)) }
         ensures refused { Remembers result self.new.failed }
-        // Only sorting takes memory.
-        ensures takes { IfErr result (λ _. self.old.failed ≡ false → self.old.ended ≡ true) }
+        // Only sorting takes memory, and it is done once.
+        ensures takes { IfErr result (λ _. self.old.failed ≡ false
+            → (self.old.ended ≡ true) × (self.old.sorted ≡ false)) }
+        ensures sorts { IfOk result (λ _. self.old.ended ≡ true → self.new.sorted ≡ true) }
         ensures again { self.old.failed ≡ true → (result ≡ Err Memory) × (self.new ≡ self.old) }
     {
         if self.failed {
