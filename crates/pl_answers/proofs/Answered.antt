@@ -12,20 +12,19 @@ use Rattle.pl_ops.specs.declared.loaded.Spread.{Spread}
 use Rattle.pl_ops.specs.Rows.{Line as Row}
 use Rattle.pl_ops.specs.Streams.{Stream, limit_stream}
 use Rattle.pl_ops.specs.Merging.{sorts_before}
-use Rattle.pl_mean.specs.Parts.{Site, part}
-use Rattle.pl_mean.specs.Outputs.{out}
+use Rattle.pl_mean.specs.Parts.{part}
 use Rattle.pl_mean.specs.Logical.{logical, meaning}
 use Rattle.pl_mean.specs.Answers.{AreAll, AreFirst, IsAnswer, IsLawful}
 use Rattle.pl_parts.specs.Law.{AreLoaded, site_of, RootPartIsTheMeaning}
 use Rattle.pl_parts.proofs.Bags.{shuffle, perm_from, ptrans}
 use Rattle.pl_parts.proofs.Numbers.{or_cases, le_is, le_cases}
-use Rattle.pl_answers.specs.Runs.{Taken, by_worker, IsRun}
+use Rattle.pl_answers.specs.Runs.{Taken, IsRun}
 use Rattle.pl_answers.specs.Laws.{root_output, GoesOnTo}
 use Rattle.pl_answers.proofs.Firsts.{perm_long}
 use Rattle.pl_answers.proofs.InOrder.{IsTop}
 use Rattle.pl_answers.proofs.Ordering.{is_sorted}
 use Rattle.pl_answers.proofs.Nodes.{NoLimits, IsFine, StandsAt, fronts}
-use Rattle.pl_answers.proofs.Tops.{UnderRoot, Top, tops}
+use Rattle.pl_answers.proofs.Tops.{Top, tops}
 use Rattle.pl_answers.proofs.Growth.{take_none, take_beyond}
 use Rattle.pl_answers.proofs.Rules.{LimitsStand, limits, is_fine, stands}
 

@@ -1,5 +1,5 @@
 -- An ordered gather over what came gives the first rows of the merge.
-use Rattle.std.proofs.Common.{◌≡◌, ℕ, zero, suc, ◌+◌, ◌-◌, ◌≤◌, ◌<◌, Bool, true, false, cond, List, [], ◌∷◌, ◌++◌, length, take, refl, sym, ap, ◌∙◌, subst, inl, inr, arith}
+use Rattle.std.proofs.Common.{◌≡◌, ℕ, zero, suc, ◌+◌, ◌≤◌, Bool, true, false, cond, List, [], ◌∷◌, ◌++◌, length, take, refl, sym, ap, ◌∙◌, subst, arith}
 use Rattle.pl_ops.specs.Rows.{Line as Row}
 use Rattle.pl_ops.specs.Streams.{Stream}
 use Rattle.pl_ops.specs.Merging.{Pick, Nothing, Taken, picked, passed, least, followed, merged, Choice, Waits, Over, Gives, beside, skipped, by_head, choice_of, going_on, merge_stream}

@@ -1,5 +1,5 @@
 -- What the rules of a sound plan say of its limits, its motions and its orders.
-use Rattle.std.proofs.Common.{◌≡◌, ℕ, ◌+◌, ◌≤◌, negsuc, Bool, true, false, not, cond, List, [], ◌∷◌, ◌++◌, Option, Some, None, refl, ap, ◌∙◌, arith}
+use Rattle.std.proofs.Common.{◌≡◌, ℕ, ◌+◌, ◌≤◌, negsuc, Bool, true, false, cond, List, [], ◌∷◌, ◌++◌, Option, Some, None, refl, ap, ◌∙◌, arith}
 use Rattle.std.specs.Prelude.{◌==◌, nat_lt}
 use Rattle.std.specs.List.{AllByRecursion}
 use Rattle.std.proofs.lemmas.Bool.Decides.{nat_tests}
@@ -10,7 +10,7 @@ use Rattle.pl_tree.specs.Trees.{Tree, Scan, Filter, Project, Limit, Sort, Join, 
 use Rattle.pl_tree.specs.Loci.{locus_of}
 use Rattle.pl_tree.specs.Orders.{keys_in, order_of}
 use Rattle.pl_plan.specs.declared.rule.Rule.TheVariants.{JoinLocus, LimitLocus, OrderMissing, MotionAboveEntry, NotAtEntry}
-use Rattle.pl_plan.specs.Places.{Place, here, postorder, is_root, root_limit, limit_over}
+use Rattle.pl_plan.specs.Places.{Place, postorder, is_root, root_limit, limit_over}
 use Rattle.pl_plan.specs.Tests.{may_join, stops_early, same_flag, same_key, is_prefix, is_entry}
 use Rattle.pl_plan.specs.Rules.{Given}
 use Rattle.pl_plan.specs.Soundness.{IsUnbroken, IsSound}
