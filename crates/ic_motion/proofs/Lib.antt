@@ -1,0 +1,13 @@
+pub mod Lists
+pub mod Places
+pub mod Readings
+pub mod Picks
+pub mod Merges
+pub mod Lanes
+pub mod Shown
+pub mod Steps
+pub mod Pulled
+pub mod Fresh
+pub mod Halted
+pub mod Fed
+pub mod Senders
