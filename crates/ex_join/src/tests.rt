@@ -1,5 +1,7 @@
+ghost use Rattle.ex_join.specs.Joins.{IsWanting};
+
 use super::*;
-use ic_row::{Row, Rows, Value};
+use ic_row::{Row, Value};
 use pl_ops::{Next, OpNo, Side};
 use pl_tree::{Pair, Pairs};
 use sqlite_items::Items;
@@ -49,13 +51,40 @@ fn feed(
     rows: &[&[Cell]],
     at: usize,
 ) -> Result<(), OpNo>
-    requires { Rattle.ex_join.specs.Joins.IsWanting side join.old }
+    requires { IsWanting side join.old }
 {
     match rows.get(at) {
         Some(cells) => join.give(alloc, side, row(alloc, cells)?),
         None => {
             join.ended(side);
             Ok(())
+        }
+    }
+}
+
+fn rows_of<'a, 'b>(
+    side: Side,
+    left: &'a [&'b [Cell]],
+    right: &'a [&'b [Cell]],
+) -> &'a [&'b [Cell]] {
+    match side {
+        Side::Left => left,
+        Side::Right => right,
+    }
+}
+
+/// The place of the next row of a side, which is then taken.
+fn next_of(taken: &mut (usize, usize), side: Side) -> usize {
+    match side {
+        Side::Left => {
+            let at = taken.0;
+            taken.0 = at.saturating_add(1);
+            at
+        }
+        Side::Right => {
+            let at = taken.1;
+            taken.1 = at.saturating_add(1);
+            at
         }
     }
 }
@@ -73,13 +102,9 @@ fn joined(
     for _ in 0..100 {
         match join.next(alloc)? {
             Next::Row(row) => cells(&mut all, &row)?,
-            Next::Wants(Side::Right) => {
-                feed(alloc, &mut join, Side::Right, right, taken.1)?;
-                taken.1 = taken.1.saturating_add(1);
-            }
-            Next::Wants(Side::Left) => {
-                feed(alloc, &mut join, Side::Left, left, taken.0)?;
-                taken.0 = taken.0.saturating_add(1);
+            Next::Wants(side) => {
+                let at = next_of(&mut taken, side);
+                feed(alloc, &mut join, side, rows_of(side, left, right), at)?;
             }
             Next::End => return Ok(all),
         }
