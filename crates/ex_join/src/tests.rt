@@ -1,5 +1,7 @@
+ghost use Rattle.ex_join.specs.Joins.{IsWanting};
+
 use super::*;
-use ic_row::{Row, Rows, Value};
+use ic_row::{Row, Value};
 use pl_ops::{Next, OpNo, Side};
 use pl_tree::{Pair, Pairs};
 use sqlite_items::Items;
@@ -49,7 +51,7 @@ fn feed(
     rows: &[&[Cell]],
     at: usize,
 ) -> Result<(), OpNo>
-    requires { Rattle.ex_join.specs.Joins.IsWanting side join.old }
+    requires { IsWanting side join.old }
 {
     match rows.get(at) {
         Some(cells) => join.give(alloc, side, row(alloc, cells)?),
