@@ -1,15 +1,17 @@
 -- A queue stays one.
-use Rattle.std.proofs.Common.{◌≡◌, ℕ, ◌+◌, ◌<◌, ◌≤◌, Bool, true, not, List, ◌∷◌, ◌++◌, length, get_or, refl, sym, ap, subst, arith, length-append, inl, inr}
+use Rattle.std.proofs.Common.{◌≡◌, ℕ, ◌+◌, ◌<◌, ◌≤◌, Bool, true, false, not, leb, List, [], ◌∷◌, ◌++◌, Some, None, length, get_or, slice_get, refl, sym, ap, ◌∙◌, subst, arith, length-append, inl, inr}
 use Rattle.std.specs.Ordering.{is_lt}
-use Rattle.std.specs.List.{All, Contains, filter}
+use Rattle.std.specs.List.{All, Contains, filter, list_any}
 use Rattle.std.specs.List.Sorted.{IsPartitionedBy, IsNonDecreasingBy}
 use Rattle.std.proofs.lemmas.Bool.{not-true, leb-false, cases_order}
+use Rattle.std.proofs.lemmas.Bool.Decides.{leb_tells}
+use Rattle.std.proofs.lemmas.List.Folds.{list_any_none}
 use Rattle.std.proofs.lemmas.List.Elements.{All-filter, Contains-get_or, filter_passes}
 use Rattle.std.proofs.lemmas.List.Filters.{length-filter_both}
 use Rattle.ic_expire.specs.declared.item.Item.{Item}
 use Rattle.ic_expire.specs.declared.dues.Due.{Due}
 use Rattle.ic_expire.specs.Items.{item_cmp, IsBefore, AreOthers, is_due}
-use Rattle.ic_expire.specs.Queue.{EachLater, without, IsHeld, IsQueue}
+use Rattle.ic_expire.specs.Queue.{EachLater, without, has_due, IsHeld, IsQueue}
 use Rattle.ic_expire.proofs.Order.{is_before_true, is_before_from, is_before_false, before_before, before_due}
 use Rattle.ic_expire.proofs.Lists.{later_at, later_filter, all_between, later_between}
 
@@ -31,6 +33,21 @@ dues_rise xs sorted i j d le within =
       | inr (inl lt) ↦ before_due (get_or xs i d) (get_or xs j d) (later_at IsBefore xs sorted i j d lt within)
       | inr (inr gt) ↦ absurd (omega (arith, le, gt))
     ]
+
+-- the first item tells whether anything is due
+pub first_due : (xs : List Item) (x : Item) (now : ℕ) → Some x ≡ slice_get xs 0 → EachLater IsBefore xs → leb x.due now ≡ has_due now xs
+first_due [] x now first sorted = absurd (let bad : Some x ≡ None = first in cc)
+first_due (y ∷ ys) x now first sorted =
+    let same : x ≡ y = cc in
+    ap (λ (z : Item). leb z.due now) same ∙ elim (leb_tells y.due now) [
+      | inl w ↦ rw w.0 refl
+      | inr w ↦
+          let none : list_any (is_due now) ys ≡ false = list_any_none (is_due now) ys (λ k d lt. not_yet (get_or ys k d) w.1 (before_due y (get_or ys k d) (sorted.0 k d lt))) in
+          rw w.0 (sym none)
+    ]
+  where
+    not_yet : (z : Item) → now < y.due → y.due ≤ z.due → leb z.due now ≡ false
+    not_yet z later le = elim (leb_tells z.due now) [ inl w ↦ absurd (omega (arith, w.1, later, le)) | inr w ↦ w.0 ]
 
 -- ---- an item less, or more
 

@@ -1,5 +1,6 @@
 -- What a queue holds.
 use Rattle.std.specs.Prelude.{map, ℕ, ◌+◌, ◌≤◌, List, [], ◌∷◌, ◌++◌, length, not, ⊤, filter, All, Contains, Bool}
+use Rattle.std.specs.List.{list_any}
 use Rattle.std.specs.Ordering.{is_lt}
 use Rattle.ic_expire.specs.declared.item.Item.{Item}
 use Rattle.ic_expire.specs.declared.dues.Due.{Due}
@@ -27,6 +28,10 @@ held_of conn held = filter (is_of conn) held
 -- the packets whose time is over by this tick
 abbrev pub dues_of : ℕ → List Item → List Due
 dues_of now held = map packet_of (filter (is_due now) held)
+
+-- the time of one of them is over by this tick
+abbrev pub has_due : ℕ → List Item → Bool
+has_due now held = list_any (is_due now) held
 
 -- the packet waits, until some tick
 abbrev pub IsHeld : ℕ → ℕ → List Item → Type 0

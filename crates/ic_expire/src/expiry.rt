@@ -2,7 +2,7 @@
 ghost use Rattle.std.specs.Prelude.{◌≡◌, ◌+◌, ◌<◌, ◌≤◌, [], ◌∷◌, ◌++◌, length, map, filter, take, drop, vec_len, vec_capacity, IfOk, OnOk, OnErr};
 ghost use Rattle.std.specs.Ordering.{is_lt};
 ghost use Rattle.ic_expire.specs.Items.{item_cmp, IsBefore, packet_of, is_due, is_upto};
-ghost use Rattle.ic_expire.specs.Queue.{EachLater, without, with_item, dues_of, IsHeld, IsQueue};
+ghost use Rattle.ic_expire.specs.Queue.{EachLater, without, with_item, has_due, dues_of, IsHeld, IsQueue};
 
 use crate::dues::{Due, Dues};
 use crate::item::Item;
@@ -51,6 +51,17 @@ fn count_due(items: &[Item], now: u64) -> usize
     ensures later { without (is_due now) items.now ≡ drop result items.now }
 {
     items.partition_point(|held| held.due <= now)
+}
+
+/// Whether any item, of items in order, has had its time at this tick.
+fn is_first_due(items: &[Item], now: u64) -> bool
+    requires { EachLater IsBefore items.now }
+    ensures { result ≡ has_due now items.now }
+{
+    match items.first() {
+        Some(first) => first.due <= now,
+        None => false,
+    }
 }
 
 /// Inserts an item if there is room.
@@ -133,6 +144,14 @@ impl Expiry {
         ensures stands { IsQueue self.now }
     {
         self.items.len()
+    }
+
+    /// Whether anything is due by tick `now`. Looks at the first item alone, and takes no memory.
+    pub fn is_due(&self, now: u64) -> bool
+        ensures value { result ≡ has_due now self.now.held }
+        ensures stands { IsQueue self.now }
+    {
+        is_first_due(self.items.as_slice(), now)
     }
 
     /// Looks for what is due by tick `now`: by due tick, then connection, then number. All of it waits on. Allocates

@@ -1,23 +1,24 @@
 -- A walk over connections, each with what it is at the next tick.
-use Rattle.std.proofs.Common.{◌≡◌, ◌≢◌, ◌<◌, ◌≤◌, ◌+◌, ℕ, zero, suc, List, [], ◌∷◌, ◌++◌, set, take, drop, map, length, cond, ◌==◌, Some, None, Result, Ok, Err, refl, ap, sym, ◌∙◌, subst, arith, inl, inr, slice_get, get_or, append_assoc}
+use Rattle.std.proofs.Common.{◌≡◌, ◌≢◌, ◌<◌, ◌≤◌, ◌+◌, ℕ, zero, suc, List, [], ◌∷◌, ◌++◌, set, take, drop, map, length, false, true, cond, ◌==◌, Some, None, Result, Ok, Err, refl, ap, sym, ◌∙◌, subst, arith, inl, inr}
+use Rattle.std.proofs.Common.{slice_get, get_or, append_assoc}
 use Rattle.std.specs.Result.{IfErr, IsErr, IsErrAnd}
-use Rattle.std.specs.List.{AllByRecursion, flat_map}
+use Rattle.std.specs.List.{AllByRecursion, Contains, flat_map}
 use Rattle.std.proofs.lemmas.Option.{slice_get_within, slice_get-get_or, get_or_from_slice_get}
 use Rattle.ic_conntab.specs.Table.{Table}
 use Rattle.ic_conntab.specs.Ends.{keys_of}
 use Rattle.ic_law.specs.Points.{Place}
 use Rattle.ic_law.specs.declared.history.Entry.{Entry}
 use Rattle.ic_law.specs.declared.history.TickNo.{TickNo}
-use Rattle.ic_law.proofs.Lists.{flat_map-push, map-append}
+use Rattle.ic_law.proofs.Lists.{Contains-none, flat_map-push, map-append}
 use Rattle.ic_sender.specs.declared.send_no.SendNo.{SendNo}
 use Rattle.ic_sender.specs.declared.send_no.SendNo.TheVariants as send
-use Rattle.ic_sender.specs.Sending.{Sending}
+use Rattle.ic_sender.specs.Sending.{Sending, spent_of, copies}
 use Rattle.ic_sender.specs.Entries.{IsTicking}
-use Rattle.ic_timed_sender.specs.Timed.{TimedState, SameEnd, next_tick, datagrams_due, queries_due, ticking}
-use Rattle.ic_timed_sender.specs.Standing.{Tells, StandsNext}
+use Rattle.ic_timed_sender.specs.Timed.{TimedState, SameEnd, MayTick, next_tick, is_due_next, numbers_due, datagrams_due, queries_due, ticking}
+use Rattle.ic_timed_sender.specs.Standing.{Tells, StandsNext, IsQuiet}
 use Rattle.ic_hub.specs.Hubbing.{Hubbing, Living, IsLiving, IsOfHub, keys_in, Ascend, IsHub, place_in}
-use Rattle.ic_hub.specs.Ticking.{RefusedFor, GivenUp, Roomless, RefusedFirst, Passes, tick_no, ticked_query, ticked}
-use Rattle.ic_hub.proofs.Places.{at_map, map_at, apart_or_same}
+use Rattle.ic_hub.specs.Ticking.{MayResend, MayAsk, RefusedFor, GivenUp, Roomless, RefusedFirst, Passes, Begins, Leaves, plan_for, tick_no, ticked_query, ticked}
+use Rattle.ic_hub.proofs.Places.{apart_or_same}
 
 -- ---- one connection
 
@@ -153,14 +154,58 @@ stands_next f P n old new x so_far less is =
     let now = so_far.rest n (get_or old n x) (omega arith) at in
     at ∙ ap Some (sym (get_or_from_slice_get new n (get_or old n x) x now) ∙ sym is)
 
--- what is planned for it
-pub planned : {A B : Type 0} (f : A → B) (xs : List A) (plan : List B) (i : ℕ) (x : A) (y : B) → plan ≡ map f xs → slice_get xs i ≡ Some x → y ≡ get_or plan i y → y ≡ f x
-planned f xs plan i x y are at is = is ∙ ap (λ l. get_or l i y) are ∙ get_or_from_slice_get (map f xs) i (f x) y (map_at f xs i x at)
+-- ---- lists that are taken one after the other
 
-pub planned_items : {V A B : Type 0} (items : V → B) (f : A → B) (xs : List A) (plans : List V) (i : ℕ) (x : A) (v : V) → map items plans ≡ map f xs → slice_get xs i ≡ Some x → v ≡ get_or plans i v → items v ≡ f x
-planned_items items f xs plans i x v are at is =
-    let w = at_map items plans i (f x) (ap (λ l. slice_get l i) are ∙ map_at f xs i x at) in
-    ap items (is ∙ get_or_from_slice_get plans i w.0 v w.1) ∙ w.2
+pub plan_none : (o : TimedState) → is_due_next o ≡ false → plan_for o ≡ []
+plan_none o none = ap (λ b. cond b (numbers_due o ∷ []) []) none
+
+pub plan_one : (o : TimedState) → is_due_next o ≡ true → plan_for o ≡ numbers_due o ∷ []
+plan_one o due = ap (λ b. cond b (numbers_due o ∷ []) []) due
+
+flat_drop_suc : {A B : Type 0} (f : A → List B) (xs : List A) (i : ℕ) (x : A) → slice_get xs i ≡ Some x → flat_map f (drop i xs) ≡ f x ++ flat_map f (drop (suc i) xs)
+flat_drop_suc f [] i x h = let bad : None ≡ Some x = h in cc
+flat_drop_suc f (y ∷ ys) zero x h = let same : y ≡ x = cc in ap (λ z. f z ++ flat_map f ys) same
+flat_drop_suc f (y ∷ ys) (suc i) x h = flat_drop_suc f ys i x h
+
+flat_drop : {A B : Type 0} (f : A → List B) (xs : List A) (i : ℕ) (x : A) → slice_get xs i ≡ Some x → flat_map f (drop i xs) ≡ f x ++ flat_map f (drop (i + 1) xs)
+flat_drop f xs i x h = let more : suc i ≡ i + 1 = omega arith in flat_drop_suc f xs i x h ∙ ap (λ n. f x ++ flat_map f (drop n xs)) more
+
+drop_all : {A : Type 0} (xs : List A) (n : ℕ) → length xs ≤ n → drop n xs ≡ []
+drop_all [] zero over = refl
+drop_all [] (suc n) over = refl
+drop_all (x ∷ xs) zero over = absurd (omega (arith, over))
+drop_all (x ∷ xs) (suc n) over = drop_all xs n (omega (arith, over))
+
+-- the lists of the first i were taken, and those of the others are left, in front of what comes after all of them
+abbrev pub AreLeft : {A B : Type 0} → (A → List B) → List A → ℕ → List B → List B → Type 0
+AreLeft {B = B} f xs i plan rest = (tail : List B) → plan ≡ flat_map f xs ++ tail → rest ≡ flat_map f (drop i xs) ++ tail
+
+pub left_begins : {A B : Type 0} (f : A → List B) (xs : List A) (i : ℕ) (x : A) (plan rest : List B) → slice_get xs i ≡ Some x → Begins (flat_map f xs) plan → AreLeft f xs i plan rest → Begins (f x) rest
+left_begins f xs i x plan rest h begins left = record {
+  rest = flat_map f (drop (i + 1) xs) ++ begins.rest;
+  is = left begins.rest begins.is ∙ ap (λ l. l ++ begins.rest) (flat_drop f xs i x h) ∙ append_assoc (f x) (flat_map f (drop (i + 1) xs)) begins.rest;
+}
+
+pub left_more : {A B : Type 0} (f : A → List B) (xs : List A) (i : ℕ) (x : A) (plan rest now : List B) → slice_get xs i ≡ Some x → AreLeft f xs i plan rest → Leaves (f x) rest now → AreLeft f xs (i + 1) plan now
+left_more f xs i x plan rest now h left leaves = λ tail is.
+    leaves (flat_map f (drop (i + 1) xs) ++ tail) (left tail is ∙ ap (λ l. l ++ tail) (flat_drop f xs i x h) ∙ append_assoc (f x) (flat_map f (drop (i + 1) xs)) tail)
+
+pub left_none : {A B : Type 0} (f : A → List B) (xs : List A) (n : ℕ) (plan rest : List B) → length xs ≤ n → AreLeft f xs n plan rest → Leaves (flat_map f xs) plan rest
+left_none f xs n plan rest over left = λ tail is. left tail is ∙ ap (λ l. flat_map f l ++ tail) (drop_all xs n over)
+
+-- a sender of which nothing is due passes with no list
+pub quiet_may : (o : TimedState) → IsQuiet o → MayResend o → MayAsk o → MayTick o []
+quiet_may o quiet packets asks = record { due = sym quiet.numbers; unspent = packets.unspent; answered = asks.answered }
+
+pub quiet_resends : (o : TimedState) → IsQuiet o → MayResend o
+quiet_resends o quiet = record {
+  unspent = ap (spent_of o.sending) quiet.numbers;
+  tells = quiet.keeps;
+  formed = λ d c. absurd (Contains-none d (subst (λ ns. Contains (copies o.sending.flights ns) d) quiet.numbers c));
+}
+
+pub quiet_gives : (o : TimedState) → IsQuiet o → datagrams_due o ≡ []
+quiet_gives o quiet = ap (copies o.sending.flights) quiet.numbers
 
 -- a sender passes by what its half of the tick promises
 pub passes : (o now : TimedState) → now ≡ ticking o → SameEnd o now → StandsNext o now (IsTicking o.sending.end.key (datagrams_due o ++ queries_due o)) → Passes o

@@ -1,5 +1,5 @@
 -- What the next tick looks at in a hub, what it makes of it, and what it is refused for.
-use Rattle.std.specs.Prelude.{◌≡◌, ℕ, ◌<◌, ◌++◌, List, map, false, Some, None, slice_get}
+use Rattle.std.specs.Prelude.{◌≡◌, ℕ, ◌<◌, ◌++◌, List, [], ◌∷◌, map, false, if◌then◌else◌, Some, None, slice_get}
 use Rattle.std.specs.List.{AllByRecursion, flat_map}
 use Rattle.ic_base.specs.declared.datagram.Datagram.{Datagram}
 use Rattle.ic_law.specs.declared.history.Entry.{Entry}
@@ -9,7 +9,7 @@ use Rattle.ic_sender.specs.declared.send_no.SendNo.{SendNo}
 use Rattle.ic_sender.specs.declared.send_no.SendNo.TheVariants as send
 use Rattle.ic_sender.specs.Sending.{Sending}
 use Rattle.ic_sender.specs.Entries.{IsTicking}
-use Rattle.ic_timed_sender.specs.Timed.{TimedState, SameEnd, next_tick, numbers_due, first_spent, is_query_spent, datagrams_due, queries_due, ticking}
+use Rattle.ic_timed_sender.specs.Timed.{TimedState, SameEnd, next_tick, is_due_next, numbers_due, first_spent, is_query_spent, datagrams_due, queries_due, ticking}
 use Rattle.ic_timed_sender.specs.Emitted.{AreOutgoing}
 use Rattle.ic_timed_sender.specs.Standing.{Stands as SenderStands, StandsNext, KeepsPackets, GivesPacketUp, KeepsQuery, GivesQueryUp}
 use Rattle.ic_hub.specs.Hubbing.{Hubbing, Living}
@@ -57,11 +57,26 @@ pub record RefusedFirst {A : Type 0} (May : A → Type 0) (Refused : A → TickN
   pub before : (i : ℕ) (x : A) → i < at → slice_get xs i ≡ Some x → May x
   pub refused : Refused first refusal
 
+-- ---- lists that are taken one after the other
+
+-- the list has this one first, and then others
+pub record Begins {A : Type 0} (front xs : List A) : Type 0 where
+  pub rest : List A
+  pub is : xs ≡ front ++ rest
+
+-- once it is taken, the others are left
+abbrev pub Leaves : {A : Type 0} → List A → List A → List A → Type 0
+Leaves {A = A} front xs left = (rest : List A) → xs ≡ front ++ rest → left ≡ rest
+
 -- ---- one query
 
--- the numbers of the packets that are due of each of its connections
+-- the numbers of the packets that are due of a connection, if any is
+abbrev pub plan_for : TimedState → List (List ℕ)
+plan_for o = if is_due_next o then numbers_due o ∷ [] else []
+
+-- those of each of its connections of which a packet is due
 abbrev pub plan_of : Living → List (List ℕ)
-plan_of l = map numbers_due l.senders
+plan_of l = flat_map plan_for l.senders
 
 -- what it emits: the packets that are due of its connections in their order, and then the status queries
 abbrev pub emission_of : Living → List Datagram

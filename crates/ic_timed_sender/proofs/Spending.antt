@@ -6,6 +6,9 @@ use Rattle.std.proofs.lemmas.Bool.{cases_Bool, eqb-true}
 use Rattle.ic_base.specs.declared.settings.Settings.{Settings}
 use Rattle.ic_base.specs.declared.datagram.Datagram.{Datagram}
 use Rattle.ic_expire.specs.declared.item.Item.{Item}
+use Rattle.ic_expire.specs.declared.dues.Due.{Due as DuePacket}
+use Rattle.ic_expire.specs.Items.{packet_of}
+use Rattle.ic_expire.specs.Items.{is_due as is_item_due}
 use Rattle.ic_expire.specs.Queue.{Queue, IsQueue}
 use Rattle.ic_law.specs.declared.history.Entry.{Entry}
 use Rattle.ic_law.specs.Filling.{sealed_of}
@@ -18,7 +21,7 @@ use Rattle.ic_law.specs.Spending.{has_no_try, spent_timers, spent_query}
 use Rattle.ic_law.proofs.Lists.{Contains-head, Contains-tail}
 use Rattle.ic_sender.specs.declared.flight.Flight.{Flight}
 use Rattle.ic_sender.specs.declared.send_no.SendNo.{SendNo}
-use Rattle.ic_sender.specs.Sending.{Sending}
+use Rattle.ic_sender.specs.Sending.{Sending, spent_of}
 use Rattle.ic_sender.specs.Sending.{has_no_try as has_none_left}
 use Rattle.ic_sender.specs.Calls.{Queries, is_unanswered}
 use Rattle.ic_sender.specs.Standing.{Waits, Mirrors, Stands as StandsFor}
@@ -28,10 +31,10 @@ use Rattle.ic_sender.proofs.Dues.{numbers_due as numbers_are}
 use Rattle.ic_sender.proofs.Knowing.{sent_is}
 use Rattle.ic_sender.proofs.Ticking.{not_any}
 use Rattle.ic_timed_sender.specs.declared.due.Due.{Due}
-use Rattle.ic_timed_sender.specs.Timed.{next_tick, numbers_due, first_spent, is_query_spent}
+use Rattle.ic_timed_sender.specs.Timed.{next_tick, is_due_next, numbers_due, first_spent, is_query_spent}
 use Rattle.ic_timed_sender.specs.Looking.{Looks}
 use Rattle.ic_timed_sender.specs.Emitted.{AreOutgoing}
-use Rattle.ic_timed_sender.specs.Standing.{Stands, KeepsPackets, GivesPacketUp, KeepsQuery, GivesQueryUp, Tells, IsSound}
+use Rattle.ic_timed_sender.specs.Standing.{Stands, KeepsPackets, GivesPacketUp, KeepsQuery, GivesQueryUp, Tells, IsQuiet, IsSound}
 use Rattle.ic_timed_sender.proofs.Formed.{all_copies_formed, all_queries_formed}
 use Rattle.ic_timed_sender.proofs.Steps.{state}
 use Rattle.ic_timed_sender.proofs.Ticking.{due_increase, due_both}
@@ -164,6 +167,24 @@ looks_tell s q now rows result sound queue (Looks.GivenUp n some_ is) =
           let w = subst (λ x. Spends x (spent_timers s.settings (next_clock h) (timing_of s.end.key s.settings h))) some_ (spent_are s q now rows h sound queue stands) in gives_packet s h n w.0 w.1 w.2 w.3,
     )
 looks_tell s q now rows result sound queue (Looks.LooksWithout is) = subst (λ (r : Result Due SendNo). Tells (state s q.held now rows) KeepsPackets GivesPacketUp r) (sym is) tt
+
+-- ---- while nothing is due
+
+none_passes : {A : Type 0} (p : A → Bool) (xs : List A) → list_any p xs ≡ false → filter p xs ≡ []
+none_passes p [] none = refl
+none_passes p (x ∷ xs) none = elim (cases_Bool (p x)) [
+  | inl pass ↦ absurd (let bad : true ≡ false = sym (ap (λ b. b || list_any p xs) pass) ∙ none in cc)
+  | inr fails ↦ rw fails (none_passes p xs (sym (ap (λ b. b || list_any p xs) fails) ∙ none))
+]
+
+pub quiet : (s : Sending) (q : Queue) (now rows : ℕ) → IsSound s q now rows → IsQueue q → is_due_next (state s q.held now rows) ≡ false → IsQuiet (state s q.held now rows)
+quiet s q now rows sound queue none =
+    let numbers : numbers_due (state s q.held now rows) ≡ [] = ap (λ xs. map (λ (d : DuePacket). d.seq) (map packet_of xs)) (none_passes (is_item_due (next_tick now)) q.held none) in
+    record {
+      numbers = numbers;
+      keeps = λ h stands.
+          keeps_packets s h (subst (λ x. Spends x (spent_timers s.settings (next_clock h) (timing_of s.end.key s.settings h))) (ap (spent_of s) numbers) (spent_are s q now rows h sound queue stands));
+    }
 
 pub looks_formed : (s : Sending) (q : Queue) (now rows : ℕ) (result : Result Due SendNo) → IsSound s q now rows → Looks (state s q.held now rows) result → IfOk result (λ (d : Due). AreOutgoing s d.datagrams)
 looks_formed s q now rows result sound (Looks.Again none is) =

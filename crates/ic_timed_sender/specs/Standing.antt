@@ -15,7 +15,7 @@ use Rattle.ic_sender.specs.declared.send_no.SendNo.TheVariants.{Full, Stopped, T
 use Rattle.ic_sender.specs.Sending.{Sending}
 use Rattle.ic_sender.specs.Standing.{Stands as StandsFor, IsUntouched}
 use Rattle.ic_chunk.specs.Counts.{HasCounted}
-use Rattle.ic_timed_sender.specs.Timed.{TimedState}
+use Rattle.ic_timed_sender.specs.Timed.{TimedState, numbers_due}
 
 -- beside those that were sent for the first time, so many packets of rows were emitted again, as a count of 128 bits
 -- tells it
@@ -72,6 +72,11 @@ Tells {A = A} o Keeps GivesUp (Err (TooLong key)) = Unit {0}
 Tells {A = A} o Keeps GivesUp (Err (Spent key seq tries)) = (key ≡ o.sending.end.key) × (tries ≡ o.sending.settings.retries) × ((h : List Entry) → Stands o h → GivesUp o.sending seq h)
 Tells {A = A} o Keeps GivesUp (Err Stray) = Unit {0}
 Tells {A = A} o Keeps GivesUp (Err Memory) = Unit {0}
+
+-- no packet of it is due at the next tick, so none is given up
+pub record IsQuiet (o : TimedState) : Type 0 where
+  pub numbers : numbers_due o ≡ []
+  pub keeps : (h : List Entry) → Stands o h → KeepsPackets o.sending h
 
 -- ---- what is always true
 

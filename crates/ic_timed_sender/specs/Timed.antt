@@ -8,7 +8,7 @@ use Rattle.ic_header.specs.declared.flags.Flags.TheVariants.{Rows, LastRows, Que
 use Rattle.ic_expire.specs.declared.item.Item.{Item}
 use Rattle.ic_expire.specs.declared.dues.Due.{Due}
 use Rattle.ic_expire.specs.Items.{is_due, is_upto}
-use Rattle.ic_expire.specs.Queue.{Queue, dues_of, without}
+use Rattle.ic_expire.specs.Queue.{Queue, has_due, dues_of, without}
 use Rattle.ic_law.specs.Clock.{last_tick}
 use Rattle.ic_law.specs.Emitting.{query_due}
 use Rattle.ic_sender.specs.declared.send_no.SendNo.{SendNo}
@@ -65,6 +65,10 @@ HearsBy Duplicate seq extra body s q now result after left = Hears s q now (IsSt
 -- the clock stands still at its end
 abbrev pub next_tick : ℕ → ℕ
 next_tick now = min last_tick (now + 1)
+
+-- a packet is due then
+abbrev pub is_due_next : TimedState → Bool
+is_due_next o = has_due (next_tick o.now) o.held
 
 -- the numbers of the packets that are due then, in order
 abbrev pub numbers_due : TimedState → List ℕ

@@ -21,6 +21,7 @@ mod timed;
 
 pub use due::{Due, Numbers};
 pub use laws::{are_formed, keeps_law, others_pass, stays_armed};
+pub use ticks::tick_behind;
 pub use timed::TimedSender;
 
 #[cfg(test)]

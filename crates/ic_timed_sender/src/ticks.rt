@@ -9,10 +9,10 @@ ghost use Rattle.ic_law.specs.Emitting.{query_due};
 ghost use Rattle.ic_sender.specs.Sending.{spent_of, waits_longer};
 ghost use Rattle.ic_sender.specs.Calls.{Queries, IsNow, LeavesRoom, is_unanswered};
 ghost use Rattle.ic_sender.specs.Entries.{IsTicking, tried_when, queried_when};
-ghost use Rattle.ic_timed_sender.specs.Timed.{SameEnd, next_tick, datagrams_due, queries_due, ticking, MayTick};
+ghost use Rattle.ic_timed_sender.specs.Timed.{SameEnd, next_tick, is_due_next, datagrams_due, queries_due, ticking, MayTick};
 ghost use Rattle.ic_timed_sender.specs.Looking.{Looks, GivesDue, GivesQuery};
 ghost use Rattle.ic_timed_sender.specs.Emitted.{AreOutgoing};
-ghost use Rattle.ic_timed_sender.specs.Standing.{StandsNext, Tells, KeepsPackets, GivesPacketUp, KeepsQuery, GivesQueryUp};
+ghost use Rattle.ic_timed_sender.specs.Standing.{StandsNext, Tells, KeepsPackets, GivesPacketUp, KeepsQuery, GivesQueryUp, IsQuiet};
 
 use crate::due::{Due, Numbers};
 use crate::timed::{TimedSender, bounded};
@@ -24,9 +24,9 @@ use std::alloc::{AllocError, Global};
 /// The last tick, at which the clock stands still: what is due 64 ticks later still fits in 64 bits.
 const LAST: u64 = 18_446_744_073_709_551_488;
 
-/// The tick after this one.
+/// The tick after this one. At the last tick the clock stands still.
 #[tactic(auto, unfolding(ic_law::specs::Clock::last_tick))]
-fn tick_behind(now: u64) -> u64
+pub fn tick_behind(now: u64) -> u64
     ensures { result ≡ next_tick now }
 {
     now.saturating_add(1).min(LAST)
@@ -78,6 +78,17 @@ impl TimedSender {
             numbers: Numbers::from_vec(numbers),
             datagrams,
         })
+    }
+
+    /// Whether a packet is due at the next tick. If none is, `due` gives nothing. Takes no memory, and looks at what is due
+    /// first alone.
+    pub fn is_due(&self) -> bool
+        ensures value { result ≡ is_due_next self.now }
+        ensures quiet { result ≡ false → IsQuiet self.now }
+    {
+        let _sound = &self.sender;
+        bounded(&self.sender, &self.waits);
+        self.waits.is_due(tick_behind(self.tick))
     }
 
     /// The first half of a tick: the packets that are due at the next one, or the first of them with no resending left.
