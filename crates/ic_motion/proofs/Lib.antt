@@ -11,3 +11,11 @@ pub mod Fresh
 pub mod Halted
 pub mod Fed
 pub mod Senders
+pub mod Sending
+pub mod Receivers
+pub mod Works
+pub mod SentBy
+pub mod Kept
+pub mod FreshOut
+pub mod Passing
+pub mod Scripts

@@ -81,6 +81,14 @@ contains_at [] k was lt at = absurd (omega (arith, lt))
 contains_at (l ∷ lanes) zero was lt at = (0, omega arith, ap (λ (x : Lane). x.sender) (sym at))
 contains_at (l ∷ lanes) (suc k) was lt at = let w = contains_at lanes k was (omega (arith, lt)) at in (suc w.0, omega (arith, w.1), w.2)
 
+got_there : (lanes : List Lane) (k : ℕ) (l : Lane) → slice_get lanes k ≡ Some l → (k < length lanes) × (l ≡ get_or lanes k l)
+got_there [] k l at = cc
+got_there (x ∷ lanes) zero l at = let one : x ≡ l = cc in (omega arith, sym one)
+got_there (x ∷ lanes) (suc k) l at = let r = got_there lanes k l at in (omega (arith, r.0), r.1)
+
+pub contains_got : (lanes : List Lane) (k : ℕ) (l : Lane) → slice_get lanes k ≡ Some l → Contains (senders_of lanes) l.sender
+contains_got lanes k l at = let r = got_there lanes k l at in contains_at lanes k l r.0 r.1
+
 pub among_from : (r : Result Parcel PortNo) (as_ : List ℤ) (a : ℤ) → Contains as_ a → IfOk r (λ p. p.from ≡ a) → IfOk r (λ p. Contains as_ p.from)
 among_from (Ok p) as_ a among is = subst (Contains as_) (sym is) among
 among_from (Err no_) as_ a among is = tt

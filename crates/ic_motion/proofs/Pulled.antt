@@ -1,6 +1,6 @@
 -- What a pull does to a receiving end that matches the steps of its worker.
 use Rattle.std.proofs.Common.{◌≡◌, ℕ, zero, suc, ℤ, List, [], ◌∷◌, ◌++◌, Bool, true, false, ◌||◌, ◌&&◌, cond, Option, Some, None, Result, Ok, Err, ◌⊎◌, inl, inr, refl, ap, sym, ◌∙◌, subst, append-nil}
-use Rattle.std.specs.List.{list_all, AllByRecursion}
+use Rattle.std.specs.List.{list_all, AllByRecursion, Contains}
 use Rattle.std.specs.Prelude.{slice_get, slice_set, IfErr, IfOk}
 use Rattle.std.specs.Ordering.{int_eq}
 use Rattle.std.proofs.lemmas.Bool.Decides.{Decides-eqb}
@@ -37,12 +37,13 @@ use Rattle.ic_motion.specs.Hearing.{has_ended, heard_of, HasKinds, Lane, Listene
 use Rattle.ic_motion.specs.Picking.{first_at, pick_of, answer_of, kept_by, row_or_more}
 use Rattle.ic_motion.specs.Feeding.{Spoilt, no_stream, wrong_mark, wrong_kinds, Grows, Spoils, place_of, end_all, end_at, Feeds, Lacks, Takes}
 use Rattle.ic_motion.specs.Feeding as feeding
-use Rattle.ic_motion.specs.Pulling.{Pulls, given_of, IsTake, AtMostOne, Tells, Answers, IsSound, Leaves, Pulled}
+use Rattle.ic_motion.specs.Pulling.{Pulls, given_of, ComesFrom, IsTake, AtMostOne, Tells, Answers, IsSound, Leaves, Pulled}
 use Rattle.ic_motion.proofs.Lists.{or_end, map_append, get_all}
 use Rattle.ic_motion.proofs.Readings.{TookOne, eqb_same, parcels_more, payloads_more, payloads_own}
 use Rattle.ic_motion.proofs.Picks.{IsOpen}
 use Rattle.ic_motion.proofs.Lanes.{lane_grows, get_sender, place_at}
 use Rattle.ic_motion.proofs.Shown.{Says, says, shown}
+use Rattle.ic_motion.proofs.Places.{among_from, contains_got}
 use Rattle.ic_motion.proofs.Steps.{IsSilent, hears_pass, received_pass, hears_as, empty_silent, took_end, hears_end, took_end_of, hears_end_of, MayCome, any, one, place_sender, hears_grows}
 
 -- ---- the log
@@ -257,6 +258,9 @@ fed m new steps given ask p log now (Err why.Memory) calls h take takes may entr
 
 -- ---- a refusal
 
+no_parcel : (senders : List ℤ) (no_ : PortNo) → ComesFrom senders (Refused no_)
+no_parcel senders no_ = λ q is. cc
+
 no_sound : (m : Listener) (steps : List Step) (ask : PortAsk) (no_ : PortNo) → IsSound m steps (step_of ask (Refused no_) [])
 no_sound m steps ask no_ = λ q is. cc
 
@@ -275,7 +279,7 @@ given_pass : (m : Listener) (steps : List Step) (s : Step) → IsSilent m.end.mo
 given_pass m steps s silent = received_pass m.order m.end.motion steps s (senders_of m.lanes) silent
 
 pub lost : (m : Listener) (ended new : List Lane) (steps : List Step) (given : List Line) (ask : PortAsk) (no_ : PortNo) (log now : List PortEntry) (result : Result Got MotionNo) → calls_of steps ≡ log → Hears m steps given
-    → ((reply : PortReply) (rows : List Line) → IsTake m steps given (step_of ask reply rows)) → takes_of m.end.motion ask ≡ true
+    → ((reply : PortReply) (rows : List Line) → ComesFrom (senders_of m.lanes) reply → IsTake m steps given (step_of ask reply rows)) → takes_of m.end.motion ask ≡ true
     → Hears (record m { lanes = ended }) (steps ++ step_of ask (Refused Ended) [] ∷ []) given × (senders_of ended ≡ senders_of m.lanes)
     → now ≡ logged ask (Refused no_) log → MayRefuseTake no_ → Lacks m.order no_ m.lanes ended new result → Pulled m (record m { lanes = new; refused = refused_by result }) steps given now result
 lost m ended new steps given ask Full log now result calls h take takes ends entry may w = absurd may
@@ -286,8 +290,8 @@ lost m ended new steps given ask Empty log now result calls h take takes ends en
     record {
       more = s ∷ [];
       log = calls_more steps s log now calls entry;
-      makes = take (Refused Empty) [];
-      leaves = waited m new steps given result Empty (s ∷ []) is kept h1 (ap (λ (x : Stream). x.rows) (given_pass m steps s silent) ∙ (take (Refused Empty) []).all) (s, refl, refl) (read_refused steps ask Empty) (no_sound m steps ask Empty);
+      makes = take (Refused Empty) [] (no_parcel (senders_of m.lanes) Empty);
+      leaves = waited m new steps given result Empty (s ∷ []) is kept h1 (ap (λ (x : Stream). x.rows) (given_pass m steps s silent) ∙ (take (Refused Empty) [] (no_parcel (senders_of m.lanes) Empty)).all) (s, refl, refl) (read_refused steps ask Empty) (no_sound m steps ask Empty);
     }
 lost m ended new steps given ask Stopped log now result calls h take takes ends entry may w = absurd may
 lost m ended new steps given ask Ended log now result calls h take takes ends entry may w =
@@ -295,7 +299,7 @@ lost m ended new steps given ask Ended log now result calls h take takes ends en
     record {
       more = s ∷ [];
       log = calls_more steps s log now calls entry;
-      makes = take (Refused Ended) [];
+      makes = take (Refused Ended) [] (no_parcel (senders_of m.lanes) Ended);
       leaves = leaves_shown m ended new steps s given result ends.0 ends.1 w (λ e. cc) (read_refused steps ask Ended) (no_sound m steps ask Ended);
     }
 lost m ended new steps given ask (TooLong key) log now result calls h take takes ends entry may w = absurd may
@@ -305,18 +309,20 @@ lost m ended new steps given ask Busy log now result calls h take takes ends ent
       more = [];
       log = calls_same steps log now calls (entry ∙ append-nil log);
       makes = tt;
-      leaves = waited m new steps given result Busy [] is kept (subst (λ x. Hears m x given) (sym same) h) (ap (λ x. (given_of m x).rows) same ∙ (take (Refused Busy) []).all) refl tt tt;
+      leaves = waited m new steps given result Busy [] is kept (subst (λ x. Hears m x given) (sym same) h) (ap (λ x. (given_of m x).rows) same ∙ (take (Refused Busy) [] (no_parcel (senders_of m.lanes) Busy)).all) refl tt tt;
     }
 lost m ended new steps given ask Memory log now result calls h take takes ends entry may (is, kept) = failed m new steps given log now result calls (entry ∙ append-nil log) is
 
 -- ---- a take
 
 took : (m : Listener) (ended new : List Lane) (steps : List Step) (given : List Line) (ask : PortAsk) (answer : Result Parcel PortNo) (log now : List PortEntry) (result : Result Got MotionNo) → calls_of steps ≡ log → Hears m steps given
-    → ((reply : PortReply) (rows : List Line) → IsTake m steps given (step_of ask reply rows)) → takes_of m.end.motion ask ≡ true → IfOk answer (λ p. MayCome m.order m.lanes p.from)
+    → ((reply : PortReply) (rows : List Line) → ComesFrom (senders_of m.lanes) reply → IsTake m steps given (step_of ask reply rows)) → takes_of m.end.motion ask ≡ true → IfOk answer (λ p. MayCome m.order m.lanes p.from)
+    → IfOk answer (λ p. Contains (senders_of m.lanes) p.from)
     → Hears (record m { lanes = ended }) (steps ++ step_of ask (Refused Ended) [] ∷ []) given × (senders_of ended ≡ senders_of m.lanes)
     → now ≡ logged ask (gave answer) log → IfErr answer MayRefuseTake → Takes m.end m.order m.kinds m.lanes ended new result answer → Pulled m (record m { lanes = new; refused = refused_by result }) steps given now result
-took m ended new steps given ask (Ok p) log now result calls h take takes may ends entry why_ w = fed m new steps given ask p log now result calls h (take (Gave p)) takes may entry w
-took m ended new steps given ask (Err no_) log now result calls h take takes may ends entry why_ w = lost m ended new steps given ask no_ log now result calls h take takes ends entry why_ w
+took m ended new steps given ask (Ok p) log now result calls h take takes may among ends entry why_ w =
+    fed m new steps given ask p log now result calls h (λ rows. take (Gave p) rows (λ q is. subst (λ (x : Parcel). Contains (senders_of m.lanes) x.from) (one_parcel p q is) among)) takes may entry w
+took m ended new steps given ask (Err no_) log now result calls h take takes may among ends entry why_ w = lost m ended new steps given ask no_ log now result calls h take takes ends entry why_ w
 
 may_any : (order : Option (List Key)) (lanes : List Lane) (answer : Result Parcel PortNo) → order ≡ None → AllByRecursion (λ (l : Lane). l.rows ≡ []) lanes → IfOk answer (λ p. MayCome order lanes p.from)
 may_any order lanes (Ok p) plain none = any plain none
@@ -373,16 +379,16 @@ pulled_by Any keys m new steps given log now result calls h (plain, all, wants, 
     let waits : list_all (has_ended motion steps) (senders_of m.lanes) ≡ false = subst (λ o. (received o (senders_of m.lanes) (heard_of motion steps)).ended ≡ false) plain open_ in
     let once = no_end_yet motion steps (senders_of m.lanes) waits in
     took m (end_all m.lanes) new steps given (Take motion) answer log now result calls h
-    (λ reply rows. record { all = all; wanted = sym wants; takes = eqb_same motion; once = and_off (is_ended reply) (ended_by (is_take motion) steps) once })
-    (eqb_same motion) (may_any m.order m.lanes answer plain none) (hears_end m steps given plain h) entry why_ makes
+    (λ reply rows comes. record { all = all; wanted = sym wants; takes = eqb_same motion; from = comes; once = and_off (is_ended reply) (ended_by (is_take motion) steps) once })
+    (eqb_same motion) (may_any m.order m.lanes answer plain none) from (hears_end m steps given plain h) entry why_ makes
 pulled_by (One k) keys m new steps given log now result calls h (ks, a, ordered, all, at_a, wants, going) pick (l, at, answer, entry, why_, from, makes) =
     let motion = m.end.motion in
     let same : a ≡ l.sender = some_same (sym at_a ∙ get_sender m.lanes k l at) in
     let once = or_right (ended_by (is_take motion) steps) (ended_by (is_take_from motion l.sender) steps)
     (or_right ((input_of motion steps).whole l.sender) (ended_by (is_take motion) steps || ended_by (is_take_from motion l.sender) steps) (open_sender motion m.kinds steps m.lanes k l.sender h.each going (get_sender m.lanes k l at))) in
     took m (end_at k m.lanes) new steps given (TakeFrom motion l.sender) answer log now result calls h
-    (λ reply rows. record { all = all; wanted = ap (λ x. Some (FromOne motion x)) (sym same) ∙ sym wants; takes = eqb_same motion; once = and_off (is_ended reply) (ended_by (is_take_from motion l.sender) steps) once })
-    (eqb_same motion) (may_one m.order ks m.lanes k l answer ordered h.ascend at going from) (hears_end_of m steps given ks k l.sender ordered going (get_sender m.lanes k l at) h) entry why_ makes
+    (λ reply rows comes. record { all = all; wanted = ap (λ x. Some (FromOne motion x)) (sym same) ∙ sym wants; takes = eqb_same motion; from = comes; once = and_off (is_ended reply) (ended_by (is_take_from motion l.sender) steps) once })
+    (eqb_same motion) (may_one m.order ks m.lanes k l answer ordered h.ascend at going from) (among_from answer (senders_of m.lanes) l.sender (contains_got m.lanes k l at) from) (hears_end_of m steps given ks k l.sender ordered going (get_sender m.lanes k l at) h) entry why_ makes
   where
     some_same : {A : Type 0} {x y : A} → Some x ≡ Some y → x ≡ y
     some_same e = cc

@@ -4,3 +4,8 @@ pub mod Picking
 pub mod Feeding
 pub mod Pulling
 pub mod Halting
+pub mod Sending
+pub mod Putting
+pub mod Sent
+pub mod Passing
+pub mod Scripts

@@ -6,6 +6,7 @@ use Rattle.ic_base.specs.declared.keys.ConnKey.{ConnKey}
 use Rattle.ic_base.specs.declared.port.PortNo.{PortNo}
 use Rattle.ic_base.specs.declared.port.PortNo.TheVariants.{Empty, Busy}
 use Rattle.ic_base.specs.declared.port.PortAsk.TheVariants as ask
+use Rattle.ic_base.specs.declared.port.PortReply.{PortReply}
 use Rattle.ic_base.specs.declared.port.PortReply.TheVariants.{Gave, Refused}
 use Rattle.ic_base.specs.declared.port.PortEntry.{PortEntry}
 use Rattle.ic_base.specs.Ports.{gave, logged, Hears, HearsFrom, MayRefuseTake}
@@ -63,11 +64,17 @@ Pulls (picks.One k) keys end order kinds old new log now result =
 abbrev pub given_of : Listener → List Step → Stream
 given_of m steps = received m.order (senders_of m.lanes) (heard_of m.end.motion steps)
 
--- A call is made only if all that can be given was given. It takes what is wanted, and no answer that comes once comes again.
+-- a parcel of the answer is from one of these senders
+abbrev pub ComesFrom : List ℤ → PortReply → Type 0
+ComesFrom senders reply = (p : Parcel) → parcels_by reply ≡ p ∷ [] → Contains senders p.from
+
+-- A call is made only if all that can be given was given. It takes what is wanted, from a sender of the motion, and no answer that
+-- comes once comes again.
 pub record IsTake (m : Listener) (steps : List Step) (given : List Line) (s : Step) : Type 0 where
   pub all : (given_of m steps).rows ≡ given
   pub wanted : want_in s.entry.ask ≡ wants_of m.end.motion m.order (senders_of m.lanes) (heard_of m.end.motion steps)
   pub takes : takes_of m.end.motion s.entry.ask ≡ true
+  pub from : ComesFrom (senders_of m.lanes) s.entry.reply
   pub once : repeats steps s.entry.ask s.entry.reply ≡ false
 
 -- one call at most, and so one step at most

@@ -5,6 +5,7 @@ ghost use Rattle.ic_motion.specs.Answers as spec;
 
 use ic_base::{ConnKey, PortNo, SegId};
 use ic_row::Row;
+use pl_tree::Columns;
 use std::alloc::AllocError;
 
 /// The receiving end of a motion: which motion of which query, and the segment that receives.
@@ -31,6 +32,17 @@ impl MotionEnd {
     }
 }
 
+/// How a motion routes its rows.
+#[derive(Drop)]
+pub enum MotionKind {
+    /// Each row goes to the one receiver. Greenplum's Gather Motion.
+    Gather,
+    /// Each row goes to the segment that the values in these columns name. Greenplum's Redistribute Motion.
+    Redistribute(Columns),
+    /// Each row goes to every receiver. Greenplum's Broadcast Motion.
+    Broadcast,
+}
+
 /// What a pull gave.
 #[derive(Drop, Debug)]
 pub enum Got {
@@ -44,16 +56,18 @@ pub enum Got {
     End,
 }
 
-/// What a halt did.
+/// What a send, an end or a halt did.
 #[derive(Clone, Copy, Debug, PartialEq, Eq)]
 pub enum Sent {
-    /// All is done: nothing more comes, or is wanted, of any sender.
+    /// All is done. Send: each of the row's receivers that wants more has all of it. End: each receiver's stream is finished, or
+    /// it wants no more. Halt: nothing more comes, or is wanted, of any sender.
     Done,
-    /// One call was done, and more are to come. Call again.
+    /// One call was answered, and more are to come. Call again.
     More,
-    /// Another worker: the call was answered `Busy`. Call again later.
+    /// The peer, the network or another worker: the call was answered `Full` or `Busy`, and a halt's only `Busy`. Call again
+    /// later.
     Wait(PortNo),
-    /// No receiver wants more. A halt never answers so.
+    /// The peers: no receiver wants more. A halt never answers so.
     AllStopped,
 }
 
@@ -63,7 +77,7 @@ pub enum MotionNo {
     /// This worker: it put so much on this connection that the packet numbers are used up. A receiving end never answers so.
     TooLong(ConnKey),
     /// The sender: what was taken on this connection is no front of a stream of rows of the motion's kinds, or it is
-    /// wrongly marked as the last.
+    /// wrongly marked as the last. A sending end never answers so.
     Malformed(ConnKey),
     /// Out of memory on this side.
     Memory,
