@@ -1,0 +1,3 @@
+pub mod Own
+pub mod Sitting
+pub mod Laws
