@@ -63,8 +63,10 @@ Pulls (picks.One k) keys end order kinds old new log now result =
 abbrev pub given_of : Listener → List Step → Stream
 given_of m steps = received m.order (senders_of m.lanes) (heard_of m.end.motion steps)
 
--- A call is made only if all that can be given was given. It takes what is wanted, and no answer that comes once comes again.
+-- A call is made only if all that can be given was given, and more may come. It takes what is wanted, and no answer that comes
+-- once comes again.
 pub record IsTake (m : Listener) (steps : List Step) (given : List Line) (s : Step) : Type 0 where
+  pub goes_on : (given_of m steps).ended ≡ false
   pub all : (given_of m steps).rows ≡ given
   pub wanted : want_in s.entry.ask ≡ wants_of m.end.motion m.order (senders_of m.lanes) (heard_of m.end.motion steps)
   pub takes : takes_of m.end.motion s.entry.ask ≡ true
@@ -97,6 +99,10 @@ Answers got.End more = AtMostOne (λ s. s.entry.reply ≡ Refused Empty → ⊥)
 abbrev pub IsSound : Listener → List Step → Step → Type 0
 IsSound m steps s = (p : Parcel) → parcels_by s.entry.reply ≡ p ∷ [] → Spoilt m.kinds (payloads_from p.from (parcels_of m.end.motion (steps ++ s ∷ []))) p.last → ⊥
 
+-- a parcel of the step is from a sender of the motion
+abbrev pub IsFromSender : Listener → Step → Type 0
+IsFromSender m s = (p : Parcel) → parcels_by s.entry.reply ≡ p ∷ [] → Contains (senders_of m.lanes) p.from
+
 -- the parcel of the step spoils the stream of this connection
 pub record IsSpoilt (m : Listener) (steps : List Step) (key : ConnKey) (s : Step) : Type 0 where
   pub p : Parcel
@@ -118,4 +124,5 @@ pub record Pulled (old new : Listener) (steps : List Step) (given : List Line) (
   pub more : List Step
   pub log : now ≡ calls_of (steps ++ more)
   pub makes : AtMostOne (IsTake old steps given) more
+  pub from : AtMostOne (IsFromSender old) more
   pub leaves : Leaves old new steps more given result

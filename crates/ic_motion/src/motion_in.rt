@@ -6,10 +6,10 @@ ghost use Rattle.ic_motion.specs.declared.answers.MotionNo.{MotionNo};
 ghost use Rattle.ic_motion.specs.Answers.{refused_by, StepsOnce, WaitsBusy, PullWaits, SendWaits};
 ghost use Rattle.ic_motion.specs.Hearing.{fresh, fresh_lane, Ascends, IsUnheard, Hears, senders_of};
 ghost use Rattle.ic_motion.specs.Pulling.{Listens, SameIn, Pulled};
-ghost use Rattle.ic_motion.specs.Halting.{Halted};
+ghost use Rattle.ic_motion.specs.Halting.{Halted, all_heard};
 
 use crate::answers::{Got, MotionEnd, MotionNo, Sent, refused_by, refused_by_pull};
-use crate::halting::halt_next;
+use crate::halting::{all_heard, halt_next};
 use crate::taking::advance;
 use crate::track::Track;
 use ic_base::{Port, SegId, Segs};
@@ -96,6 +96,13 @@ impl MotionIn {
         );
         self.refused = refused_by_pull(&answer);
         answer
+    }
+
+    /// Whether nothing more comes, or is wanted, of any sender.
+    pub fn is_heard(&self) -> bool
+        ensures { result ≡ all_heard self.now.lanes }
+    {
+        all_heard(self.tracks.as_slice())
     }
 
     /// Halts the next sender from which more may come. If the answer is `More` or `Wait`, call it again.
