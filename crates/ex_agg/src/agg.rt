@@ -165,6 +165,7 @@ impl Agg {
         ensures falls { IfOk result (λ next. NextFalls next (work self.old) (work self.new)) }
         ensures memory { IfErr result (λ no. self.old.refused ≡ None → no ≡ Memory) }
         ensures refused { IfErr result (λ no. self.new.refused ≡ Some no) }
+        ensures goes_on { OnOk result (self.new.refused ≡ None) }
         ensures again { (why : Whys) → self.old.refused ≡ Some why → (result ≡ Err why) × (self.new ≡ self.old) }
     {
         if let Some(no) = self.refused {
@@ -198,6 +199,7 @@ impl Agg {
         ensures work { OnOk result (work self.new ≤ work self.old + 1) }
         ensures over { IfErr result (λ no. no ≡ Overflow → self.old.refused ≡ None → IsTooMuch self.old row) }
         ensures refused { IfErr result (λ no. self.new.refused ≡ Some no) }
+        ensures goes_on { OnOk result (self.new.refused ≡ None) }
         ensures again { (why : Whys) → self.old.refused ≡ Some why → (result ≡ Err why) × (self.new ≡ self.old) }
     {
         if let Some(no) = self.refused {

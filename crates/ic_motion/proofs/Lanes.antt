@@ -12,8 +12,8 @@ use Rattle.pl_mean.specs.Outputs.{came_from, stream_from}
 use Rattle.pl_runs.specs.Steps.{Step, input_of, parcels_of, parcels_in, came_in, halted_from, halts_from}
 use Rattle.pl_runs.specs.Logs.{payloads_from}
 use Rattle.ic_motion.specs.Hearing.{has_ended, heard_of, HasKinds, Lane, senders_of, stream_of, streams_of, Ascends, LaneHears}
-use Rattle.ic_motion.specs.Feeding.{Grows, place_of, end_at}
-use Rattle.ic_motion.proofs.Lists.{or_end, or_none, int_same, int_differ, int_apart, below_apart, all_append}
+use Rattle.ic_motion.specs.Feeding.{Grows, place_of}
+use Rattle.ic_motion.proofs.Lists.{or_none, int_same, int_differ, int_apart, below_apart, all_append}
 use Rattle.ic_motion.proofs.Readings.{ends_in, parcels_more, took_more, payloads_more, came_more, ended_more, halted_more, TookOne, payloads_own, came_own, ends_own, payloads_else, came_else, ends_else, no_halt}
 use Rattle.ic_motion.proofs.Picks.{IsOpen}
 use Rattle.ic_motion.proofs.Merges.{grow}
@@ -148,13 +148,6 @@ streams_grow (l ∷ lanes) zero was lane more end at rows over =
     ap (λ r. record { rows = r; ended = lane.over } ∷ streams_of lanes) (rows ∙ ap (λ (x : Lane). x.rows ++ more) one)
     ∙ ap (λ b. record { rows = l.rows ++ more; ended = b } ∷ streams_of lanes) (over ∙ ap (λ (x : Lane). x.over || end) one)
 streams_grow (l ∷ lanes) (suc k) was lane more end at rows over = ap (λ ss. stream_of l ∷ ss) (streams_grow lanes k was lane more end at rows over)
-
-pub streams_end : (lanes : List Lane) (k : ℕ) → streams_of (end_at k lanes) ≡ grow k [] true (streams_of lanes)
-unfolding grow
-streams_end [] k = refl
-streams_end (l ∷ lanes) zero =
-    ap (λ r. record { rows = r; ended = true } ∷ streams_of lanes) (sym (append-nil l.rows)) ∙ ap (λ b. record { rows = l.rows ++ []; ended = b } ∷ streams_of lanes) (sym (or_end l.over))
-streams_end (l ∷ lanes) (suc k) = ap (λ ss. stream_of l ∷ ss) (streams_end lanes k)
 
 pub open_start : (motion : ℕ) (kinds : List Kind) (steps : List Step) (lanes : List Lane) (k : ℕ) → AllByRecursion (LaneHears motion kinds steps) lanes → IsOpen k (streams_of lanes)
     → IsOpen k (map (stream_from (heard_of motion steps)) (senders_of lanes))

@@ -9,7 +9,7 @@ use Rattle.ic_chunk.specs.Joining.{Held}
 use Rattle.pl_ops.specs.Rows.{Line}
 use Rattle.ic_motion.specs.Hearing.{Lane, fresh_lane, senders_of, streams_of}
 use Rattle.ic_motion.specs.Picking.{first_in, first_at, without_first, pop_at}
-use Rattle.ic_motion.specs.Feeding.{place_of, end_one, end_all, end_at}
+use Rattle.ic_motion.specs.Feeding.{place_of}
 use Rattle.ic_motion.specs.Halting.{is_heard, all_heard, halt_at}
 use Rattle.ic_motion.proofs.Lists.{int_same, int_differ}
 
@@ -19,37 +19,6 @@ pub new_lane : (a : ℤ) (h : Held) (rows : List Line) → h ≡ record { rest =
 new_lane a h rows held none =
     let lane : Held → List Line → Lane = λ x r. record { sender = a; stream = x; rows = r; over = false; halted = false } in
     ap (λ x. lane x rows) held ∙ ap (lane (record { rest = []; ended = false })) none
-
--- the first so many have ended
-unfoldable pub ended_upto : ℕ → List Lane → List Lane
-ended_upto zero lanes = lanes
-ended_upto (suc k) [] = []
-ended_upto (suc k) (l ∷ lanes) = end_one l ∷ ended_upto k lanes
-
-pub ended_none : (lanes : List Lane) → lanes ≡ ended_upto 0 lanes
-unfolding ended_upto
-ended_none lanes = refl
-
-pub ended_more : (lanes : List Lane) (k n : ℕ) (was : Lane) → k < length lanes → n ≡ k + 1 → was ≡ get_or (ended_upto k lanes) k was → set (ended_upto k lanes) k (end_one was) ≡ ended_upto n lanes
-unfolding ended_upto
-ended_more [] k n was lt is at = absurd (omega (arith, lt))
-ended_more (l ∷ lanes) zero n was lt is at = ap (λ x. end_one x ∷ lanes) at ∙ ap (λ j. ended_upto j (l ∷ lanes)) (let e : suc zero ≡ n = omega (arith, is) in e)
-ended_more (l ∷ lanes) (suc k) n was lt is at =
-    let e : suc (k + 1) ≡ n = omega (arith, is) in
-    ap (λ ls. end_one l ∷ ls) (ended_more lanes k (k + 1) was (omega (arith, lt)) refl at) ∙ ap (λ j. ended_upto j (l ∷ lanes)) e
-
-pub ended_length : (lanes : List Lane) (k : ℕ) → length (ended_upto k lanes) ≡ length lanes
-unfolding ended_upto
-ended_length lanes zero = refl
-ended_length [] (suc k) = refl
-ended_length (l ∷ lanes) (suc k) = ap suc (ended_length lanes k)
-
-pub ended_all : (lanes : List Lane) (k : ℕ) → length lanes ≤ k → ended_upto k lanes ≡ end_all lanes
-unfolding ended_upto
-ended_all [] zero le = refl
-ended_all [] (suc k) le = refl
-ended_all (l ∷ lanes) zero le = absurd (omega (arith, le))
-ended_all (l ∷ lanes) (suc k) le = ap (λ ls. end_one l ∷ ls) (ended_all lanes k (omega (arith, le)))
 
 pub lane_there : (lanes : List Lane) (k : ℕ) (was : Lane) → k < length lanes → was ≡ get_or lanes k was → slice_get lanes k ≡ Some was
 lane_there [] k was lt at = absurd (omega (arith, lt))
@@ -70,11 +39,6 @@ pub popped : (lanes : List Lane) (k : ℕ) (was new : Lane) → slice_get lanes 
 popped [] k was new at is = refl
 popped (l ∷ lanes) zero was new at is = let one : was ≡ l = cc in ap (λ x. x ∷ lanes) (is ∙ ap (λ (x : Lane). record x { rows = without_first x.rows }) one)
 popped (l ∷ lanes) (suc k) was new at is = ap (λ ls. l ∷ ls) (popped lanes k was new at is)
-
-pub ended_one : (lanes : List Lane) (k : ℕ) (was new : Lane) → slice_get lanes k ≡ Some was → new ≡ record was { over = true } → set lanes k new ≡ end_at k lanes
-ended_one [] k was new at is = refl
-ended_one (l ∷ lanes) zero was new at is = let one : was ≡ l = cc in ap (λ x. x ∷ lanes) (is ∙ ap (λ (x : Lane). record x { over = true }) one)
-ended_one (l ∷ lanes) (suc k) was new at is = ap (λ ls. l ∷ ls) (ended_one lanes k was new at is)
 
 pub contains_at : (lanes : List Lane) (k : ℕ) (was : Lane) → k < length lanes → was ≡ get_or lanes k was → Contains (senders_of lanes) was.sender
 contains_at [] k was lt at = absurd (omega (arith, lt))

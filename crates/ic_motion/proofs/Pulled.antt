@@ -4,6 +4,7 @@ use Rattle.std.specs.List.{list_all, AllByRecursion, Contains}
 use Rattle.std.specs.Prelude.{slice_get, slice_set, IfErr, IfOk}
 use Rattle.std.specs.Ordering.{int_eq}
 use Rattle.std.proofs.lemmas.Bool.Decides.{Decides-eqb}
+use Rattle.std.proofs.lemmas.Option.{slice_get_within, get_or_from_slice_get}
 use Rattle.ic_base.specs.declared.datagram.Parcel.{Parcel}
 use Rattle.ic_base.specs.declared.keys.ConnEnd.{ConnEnd}
 use Rattle.ic_base.specs.declared.port.PortNo.{PortNo}
@@ -21,7 +22,6 @@ use Rattle.ic_chunk.proofs.Fronts.{front_assembles}
 use Rattle.ic_row.specs.declared.value.Kind.{Kind}
 use Rattle.ic_row.specs.declared.order.Key.{Key}
 use Rattle.pl_ops.specs.Rows.{Line}
-use Rattle.pl_ops.specs.Streams.{Stream}
 use Rattle.pl_mean.specs.Outputs.{Came, rows_in, came_from, received}
 use Rattle.pl_runs.specs.Steps.{Step, calls_of, input_of, parcels_of, parcels_in, takes_of, is_ended, is_take, is_take_from, ended_by}
 use Rattle.pl_runs.specs.Wanting.{FromOne}
@@ -34,17 +34,16 @@ use Rattle.ic_motion.specs.declared.picking.Pick.{Pick}
 use Rattle.ic_motion.specs.declared.picking.Pick.TheVariants.{Row, Any, One, Nothing}
 use Rattle.ic_motion.specs.Answers.{row_in, refused_by}
 use Rattle.ic_motion.specs.Hearing.{has_ended, heard_of, HasKinds, Lane, Listener, senders_of, streams_of, Ascends, LaneHears, Hears}
-use Rattle.ic_motion.specs.Picking.{first_at, pick_of, answer_of, kept_by, row_or_more}
-use Rattle.ic_motion.specs.Feeding.{Spoilt, no_stream, wrong_mark, wrong_kinds, Grows, Spoils, place_of, end_all, end_at, Feeds, Lacks, Takes}
-use Rattle.ic_motion.specs.Feeding as feeding
-use Rattle.ic_motion.specs.Pulling.{Pulls, given_of, ComesFrom, IsTake, AtMostOne, Tells, Answers, IsSound, Leaves, Pulled}
+use Rattle.ic_motion.specs.Picking.{pick_of, answer_of, kept_by, row_or_more}
+use Rattle.ic_motion.specs.Feeding.{Spoilt, no_stream, wrong_mark, wrong_kinds, Grows, place_of, Feeds, Lacks, Takes}
+use Rattle.ic_motion.specs.Pulling.{Pulls, given_of, IsTake, AtMostOne, Tells, Answers, IsSound, IsFromSender, Leaves, Pulled}
 use Rattle.ic_motion.proofs.Lists.{or_end, map_append, get_all}
 use Rattle.ic_motion.proofs.Readings.{TookOne, eqb_same, parcels_more, payloads_more, payloads_own}
 use Rattle.ic_motion.proofs.Picks.{IsOpen}
+use Rattle.ic_motion.proofs.Places.{contains_at}
 use Rattle.ic_motion.proofs.Lanes.{lane_grows, get_sender, place_at}
 use Rattle.ic_motion.proofs.Shown.{Says, says, shown}
-use Rattle.ic_motion.proofs.Places.{among_from, contains_got}
-use Rattle.ic_motion.proofs.Steps.{IsSilent, hears_pass, received_pass, hears_as, empty_silent, took_end, hears_end, took_end_of, hears_end_of, MayCome, any, one, place_sender, hears_grows}
+use Rattle.ic_motion.proofs.Steps.{hears_pass, hears_as, empty_silent, MayCome, any, one, place_sender, hears_grows}
 
 -- ---- the log
 
@@ -181,53 +180,40 @@ lets_out : (motion : ℕ) (steps : List Step) (p : Parcel) (rows : List Line) �
 lets_out motion steps p rows (inl w) = completes rows w
 lets_out motion steps p rows (inr w) = subst (LetsOut motion steps p) (sym w.1) (spoils w.0)
 
--- ---- what is answered once a row may be given
-
-answers_not : (pick : Pick) (lanes : List Lane) (s : Step) → (s.entry.reply ≡ Refused Empty → ⊥) → Answers (answer_of pick lanes) (s ∷ [])
-answers_not (Row k) lanes s ne = by (first_at k (streams_of lanes))
-  where
-    by : (o : Option Line) → Answers (row_or_more o) (s ∷ [])
-    by None = (s, refl, ne)
-    by (Some row) = ne
-answers_not Any lanes s ne = (s, refl, ne)
-answers_not (One k) lanes s ne = (s, refl, ne)
-answers_not Nothing lanes s ne = ne
-
--- a step was added, these lanes match, and of them a row is given if one is known
-leaves_shown : (m : Listener) (lanes new : List Lane) (steps : List Step) (s : Step) (given : List Line) (result : Result Got MotionNo) → Hears (record m { lanes = lanes }) (steps ++ s ∷ []) given
-    → senders_of lanes ≡ senders_of m.lanes → feeding.Shows m.order lanes new result → (s.entry.reply ≡ Refused Empty → ⊥) → IsRead steps s → IsSound m steps s
-    → Leaves m (record m { lanes = new; refused = refused_by result }) steps (s ∷ []) given result
-leaves_shown m lanes new steps s given result h senders w ne read sound =
-    let pick = pick_of m.order (streams_of lanes) in
-    let answer = answer_of pick lanes in
-    let sh = shown (record m { lanes = lanes }) (steps ++ s ∷ []) given h in
-    subst (λ r. Leaves m (record m { lanes = new; refused = refused_by r }) steps (s ∷ []) given r) (sym w.answer) (
-      hears_as (record m { lanes = kept_by pick lanes }) (record m { lanes = new; refused = None }) (steps ++ s ∷ []) (given ++ row_in answer) refl refl refl w.kept sh.hears,
-      subst (λ as_. Tells m (received m.order as_ (heard_of m.end.motion (steps ++ s ∷ []))) given answer) senders sh.tells,
-      answers_not pick lanes s ne,
-      read,
-      sound,
-    )
-
 -- ---- a parcel
 
+-- the parcel of the step is from a sender of the motion
+from_one : (m : Listener) (ask : PortAsk) (p : Parcel) (rows : List Line) → Contains (senders_of m.lanes) p.from → IsFromSender m (step_of ask (Gave p) rows)
+from_one m ask p rows came q is = let same : p ≡ q = one_parcel p q is in subst (λ (x : Parcel). Contains (senders_of m.lanes) x.from) same came
+
+no_parcel : (m : Listener) (ask : PortAsk) (no_ : PortNo) → IsFromSender m (step_of ask (Refused no_) [])
+no_parcel m ask no_ = λ q is. cc
+
 pub fed : (m : Listener) (new : List Lane) (steps : List Step) (given : List Line) (ask : PortAsk) (p : Parcel) (log now : List PortEntry) (result : Result Got MotionNo) → calls_of steps ≡ log → Hears m steps given
-    → ((rows : List Line) → IsTake m steps given (step_of ask (Gave p) rows)) → takes_of m.end.motion ask ≡ true → MayCome m.order m.lanes p.from
-    → now ≡ log ++ record { ask = ask; reply = Gave p } ∷ [] → Feeds m.end m.order m.kinds p m.lanes new result → Pulled m (record m { lanes = new; refused = refused_by result }) steps given now result
-fed m new steps given ask p log now (Ok answer) calls h take takes may entry (was, lane, rows, at, grows, shows_) =
+    → ((rows : List Line) → IsTake m steps given (step_of ask (Gave p) rows)) → takes_of m.end.motion ask ≡ true → MayCome m.order m.lanes p.from → Contains (senders_of m.lanes) p.from
+    → now ≡ log ++ record { ask = ask; reply = Gave p } ∷ [] → Feeds m.end m.kinds p m.lanes new result → Pulled m (record m { lanes = new; refused = refused_by result }) steps given now result
+fed m new steps given ask p log now (Ok answer) calls h take takes may came entry (was, lane, rows, at, grows, is, more) =
     let s : Step = step_of ask (Gave p) rows in
     let t : TookOne m.end.motion s p rows = record { takes = takes; gave = refl; rows_are = refl } in
     let g = hears_grows m steps s p rows given was lane t grows at may h in
     let from : p.from ≡ was.sender = sym (place_sender m.lanes p.from was at).0 in
     let l = get_all (LaneHears m.end.motion m.kinds steps) m.lanes (place_of m.lanes p.from) was h.each at in
-    record {
+    subst (λ a. Pulled m (record m { lanes = new; refused = None }) steps given now (Ok a)) (sym more)
+    (record {
       more = s ∷ [];
       log = calls_more steps s log now calls entry;
       makes = take rows;
-      leaves = leaves_shown m (slice_set m.lanes (place_of m.lanes p.from) lane) new steps s given (Ok answer) g.0 g.1 shows_ (λ e. cc)
-          (read_took m.end.motion steps ask p rows takes (lets_grow m.end.motion steps p rows m.kinds was lane from l grows)) (sound_grow m steps ask p rows was lane t from l grows g.0.fit);
-    }
-fed m new steps given ask p log now (Err (why.Malformed key)) calls h take takes may entry (was, at, key_is, bad) =
+      from = from_one m ask p rows came;
+      leaves = (
+        hears_as (record m { lanes = slice_set m.lanes (place_of m.lanes p.from) lane }) (record m { lanes = new; refused = None }) (steps ++ s ∷ []) (given ++ []) refl refl refl is
+            (subst (Hears (record m { lanes = slice_set m.lanes (place_of m.lanes p.from) lane }) (steps ++ s ∷ [])) (sym (append-nil given)) g.0),
+        (take rows).all,
+        (s, p, refl, refl),
+        read_took m.end.motion steps ask p rows takes (lets_grow m.end.motion steps p rows m.kinds was lane from l grows),
+        sound_grow m steps ask p rows was lane t from l grows g.0.fit,
+      );
+    })
+fed m new steps given ask p log now (Err (why.Malformed key)) calls h take takes may came entry (was, at, key_is, bad) =
     let from : p.from ≡ was.sender = sym (place_sender m.lanes p.from was at).0 in
     let l = get_all (LaneHears m.end.motion m.kinds steps) m.lanes (place_of m.lanes p.from) was h.each at in
     let payloads = payloads_from p.from (parcels_of m.end.motion steps) in
@@ -241,6 +227,7 @@ fed m new steps given ask p log now (Err (why.Malformed key)) calls h take takes
       more = s ∷ [];
       log = calls_more steps s log now calls entry;
       makes = take lets.0;
+      from = from_one m ask p lets.0 came;
       leaves = (
         s,
         refl,
@@ -248,24 +235,22 @@ fed m new steps given ask p log now (Err (why.Malformed key)) calls h take takes
         record { p = p; is = refl; key_is = key_is; spoils = subst (λ x. Spoilt m.kinds x p.last) (sym (with_payload m.end.motion steps s p lets.0 t)) sp },
       );
     }
-fed m new steps given ask p log now (Err (why.TooLong key)) calls h take takes may entry w = absurd w
-fed m new steps given ask p log now (Err why.Memory) calls h take takes may entry w = record {
+fed m new steps given ask p log now (Err (why.TooLong key)) calls h take takes may came entry w = absurd w
+fed m new steps given ask p log now (Err why.Memory) calls h take takes may came entry w = record {
   more = step_of ask (Gave p) [] ∷ [];
   log = calls_more steps (step_of ask (Gave p) []) log now calls entry;
   makes = take [];
+  from = from_one m ask p [] came;
   leaves = tt;
 }
 
 -- ---- a refusal
 
-no_parcel : (senders : List ℤ) (no_ : PortNo) → ComesFrom senders (Refused no_)
-no_parcel senders no_ = λ q is. cc
-
 no_sound : (m : Listener) (steps : List Step) (ask : PortAsk) (no_ : PortNo) → IsSound m steps (step_of ask (Refused no_) [])
 no_sound m steps ask no_ = λ q is. cc
 
 waited : (m : Listener) (new : List Lane) (steps : List Step) (given : List Line) (result : Result Got MotionNo) (no_ : PortNo) (more : List Step) → result ≡ Ok (got.Wait no_) → new ≡ m.lanes → Hears m (steps ++ more) given
-    → (given_of m (steps ++ more)).rows ≡ given → Answers (got.Wait no_) more → AtMostOne (IsRead steps) more → AtMostOne (IsSound m steps) more → Leaves m (record m { lanes = new; refused = refused_by result }) steps more given result
+    → (given_of m steps).rows ≡ given → Answers (got.Wait no_) more → AtMostOne (IsRead steps) more → AtMostOne (IsSound m steps) more → Leaves m (record m { lanes = new; refused = refused_by result }) steps more given result
 waited m new steps given result no_ more is kept h all answers read sound =
     subst (λ r. Leaves m (record m { lanes = new; refused = refused_by r }) steps more given r) (sym is)
     (hears_as m (record m { lanes = new; refused = None }) (steps ++ more) (given ++ []) refl refl refl kept (subst (Hears m (steps ++ more)) (sym (append-nil given)) h), all, answers, read, sound)
@@ -273,56 +258,44 @@ waited m new steps given result no_ more is kept h all answers read sound =
 failed : (m : Listener) (new : List Lane) (steps : List Step) (given : List Line) (log now : List PortEntry) (result : Result Got MotionNo) → calls_of steps ≡ log → now ≡ log → result ≡ Err why.Memory
     → Pulled m (record m { lanes = new; refused = refused_by result }) steps given now result
 failed m new steps given log now result calls entry is =
-    subst (λ r. Pulled m (record m { lanes = new; refused = refused_by r }) steps given now r) (sym is) (record { more = []; log = calls_same steps log now calls entry; makes = tt; leaves = tt })
+    subst (λ r. Pulled m (record m { lanes = new; refused = refused_by r }) steps given now r) (sym is) (record { more = []; log = calls_same steps log now calls entry; makes = tt; from = tt; leaves = tt })
 
-given_pass : (m : Listener) (steps : List Step) (s : Step) → IsSilent m.end.motion s → given_of m (steps ++ s ∷ []) ≡ given_of m steps
-given_pass m steps s silent = received_pass m.order m.end.motion steps s (senders_of m.lanes) silent
-
-pub lost : (m : Listener) (ended new : List Lane) (steps : List Step) (given : List Line) (ask : PortAsk) (no_ : PortNo) (log now : List PortEntry) (result : Result Got MotionNo) → calls_of steps ≡ log → Hears m steps given
-    → ((reply : PortReply) (rows : List Line) → ComesFrom (senders_of m.lanes) reply → IsTake m steps given (step_of ask reply rows)) → takes_of m.end.motion ask ≡ true
-    → Hears (record m { lanes = ended }) (steps ++ step_of ask (Refused Ended) [] ∷ []) given × (senders_of ended ≡ senders_of m.lanes)
-    → now ≡ logged ask (Refused no_) log → MayRefuseTake no_ → Lacks m.order no_ m.lanes ended new result → Pulled m (record m { lanes = new; refused = refused_by result }) steps given now result
-lost m ended new steps given ask Full log now result calls h take takes ends entry may w = absurd may
-lost m ended new steps given ask Empty log now result calls h take takes ends entry may (is, kept) =
+pub lost : (m : Listener) (new : List Lane) (steps : List Step) (given : List Line) (ask : PortAsk) (no_ : PortNo) (log now : List PortEntry) (result : Result Got MotionNo) → calls_of steps ≡ log → Hears m steps given
+    → ((reply : PortReply) (rows : List Line) → IsTake m steps given (step_of ask reply rows)) → takes_of m.end.motion ask ≡ true
+    → now ≡ logged ask (Refused no_) log → MayRefuseTake no_ → Lacks no_ m.lanes new result → Pulled m (record m { lanes = new; refused = refused_by result }) steps given now result
+lost m new steps given ask Full log now result calls h take takes entry may w = absurd may
+lost m new steps given ask Empty log now result calls h take takes entry may (is, kept) =
     let s : Step = step_of ask (Refused Empty) [] in
     let silent = empty_silent m.end.motion ask takes in
-    let h1 = hears_pass m steps s given silent h in
     record {
       more = s ∷ [];
       log = calls_more steps s log now calls entry;
-      makes = take (Refused Empty) [] (no_parcel (senders_of m.lanes) Empty);
-      leaves = waited m new steps given result Empty (s ∷ []) is kept h1 (ap (λ (x : Stream). x.rows) (given_pass m steps s silent) ∙ (take (Refused Empty) [] (no_parcel (senders_of m.lanes) Empty)).all) (s, refl, refl) (read_refused steps ask Empty) (no_sound m steps ask Empty);
+      makes = take (Refused Empty) [];
+      from = no_parcel m ask Empty;
+      leaves = waited m new steps given result Empty (s ∷ []) is kept (hears_pass m steps s given silent h) (take (Refused Empty) []).all (s, refl, refl) (read_refused steps ask Empty) (no_sound m steps ask Empty);
     }
-lost m ended new steps given ask Stopped log now result calls h take takes ends entry may w = absurd may
-lost m ended new steps given ask Ended log now result calls h take takes ends entry may w =
+lost m new steps given ask Stopped log now result calls h take takes entry may w = absurd may
+lost m new steps given ask Ended log now result calls h take takes entry may (is, kept) =
     let s : Step = step_of ask (Refused Ended) [] in
-    record {
-      more = s ∷ [];
-      log = calls_more steps s log now calls entry;
-      makes = take (Refused Ended) [] (no_parcel (senders_of m.lanes) Ended);
-      leaves = leaves_shown m ended new steps s given result ends.0 ends.1 w (λ e. cc) (read_refused steps ask Ended) (no_sound m steps ask Ended);
-    }
-lost m ended new steps given ask (TooLong key) log now result calls h take takes ends entry may w = absurd may
-lost m ended new steps given ask Busy log now result calls h take takes ends entry may (is, kept) =
-    let same = append-nil steps in
-    record {
-      more = [];
-      log = calls_same steps log now calls (entry ∙ append-nil log);
-      makes = tt;
-      leaves = waited m new steps given result Busy [] is kept (subst (λ x. Hears m x given) (sym same) h) (ap (λ x. (given_of m x).rows) same ∙ (take (Refused Busy) [] (no_parcel (senders_of m.lanes) Busy)).all) refl tt tt;
-    }
-lost m ended new steps given ask Memory log now result calls h take takes ends entry may (is, kept) = failed m new steps given log now result calls (entry ∙ append-nil log) is
+    subst (λ r. Pulled m (record m { lanes = new; refused = refused_by r }) steps given now r) (sym is)
+    (record { more = s ∷ []; log = calls_more steps s log now calls entry; makes = take (Refused Ended) []; from = no_parcel m ask Ended; leaves = tt })
+lost m new steps given ask (TooLong key) log now result calls h take takes entry may w = absurd may
+lost m new steps given ask Busy log now result calls h take takes entry may (is, kept) = record {
+  more = [];
+  log = calls_same steps log now calls (entry ∙ append-nil log);
+  makes = tt;
+  from = tt;
+  leaves = waited m new steps given result Busy [] is kept (subst (λ x. Hears m x given) (sym (append-nil steps)) h) (take (Refused Busy) []).all refl tt tt;
+}
+lost m new steps given ask Memory log now result calls h take takes entry may (is, kept) = failed m new steps given log now result calls (entry ∙ append-nil log) is
 
 -- ---- a take
 
-took : (m : Listener) (ended new : List Lane) (steps : List Step) (given : List Line) (ask : PortAsk) (answer : Result Parcel PortNo) (log now : List PortEntry) (result : Result Got MotionNo) → calls_of steps ≡ log → Hears m steps given
-    → ((reply : PortReply) (rows : List Line) → ComesFrom (senders_of m.lanes) reply → IsTake m steps given (step_of ask reply rows)) → takes_of m.end.motion ask ≡ true → IfOk answer (λ p. MayCome m.order m.lanes p.from)
-    → IfOk answer (λ p. Contains (senders_of m.lanes) p.from)
-    → Hears (record m { lanes = ended }) (steps ++ step_of ask (Refused Ended) [] ∷ []) given × (senders_of ended ≡ senders_of m.lanes)
-    → now ≡ logged ask (gave answer) log → IfErr answer MayRefuseTake → Takes m.end m.order m.kinds m.lanes ended new result answer → Pulled m (record m { lanes = new; refused = refused_by result }) steps given now result
-took m ended new steps given ask (Ok p) log now result calls h take takes may among ends entry why_ w =
-    fed m new steps given ask p log now result calls h (λ rows. take (Gave p) rows (λ q is. subst (λ (x : Parcel). Contains (senders_of m.lanes) x.from) (one_parcel p q is) among)) takes may entry w
-took m ended new steps given ask (Err no_) log now result calls h take takes may among ends entry why_ w = lost m ended new steps given ask no_ log now result calls h take takes ends entry why_ w
+took : (m : Listener) (new : List Lane) (steps : List Step) (given : List Line) (ask : PortAsk) (answer : Result Parcel PortNo) (log now : List PortEntry) (result : Result Got MotionNo) → calls_of steps ≡ log → Hears m steps given
+    → ((reply : PortReply) (rows : List Line) → IsTake m steps given (step_of ask reply rows)) → takes_of m.end.motion ask ≡ true → IfOk answer (λ p. MayCome m.order m.lanes p.from) → IfOk answer (λ p. Contains (senders_of m.lanes) p.from)
+    → now ≡ logged ask (gave answer) log → IfErr answer MayRefuseTake → Takes m.end m.kinds m.lanes new result answer → Pulled m (record m { lanes = new; refused = refused_by result }) steps given now result
+took m new steps given ask (Ok p) log now result calls h take takes may came entry why_ w = fed m new steps given ask p log now result calls h (take (Gave p)) takes may came entry w
+took m new steps given ask (Err no_) log now result calls h take takes may came entry why_ w = lost m new steps given ask no_ log now result calls h take takes entry why_ w
 
 may_any : (order : Option (List Key)) (lanes : List Lane) (answer : Result Parcel PortNo) → order ≡ None → AllByRecursion (λ (l : Lane). l.rows ≡ []) lanes → IfOk answer (λ p. MayCome order lanes p.from)
 may_any order lanes (Ok p) plain none = any plain none
@@ -333,12 +306,19 @@ may_one : (order : Option (List Key)) (keys : List Key) (lanes : List Lane) (k :
 may_one order keys lanes k l (Ok p) ordered up at going from = one keys ordered (subst (λ n. IsOpen n (streams_of lanes)) (sym (place_at lanes k l p.from up at from)) going)
 may_one order keys lanes k l (Err no_) ordered up at going from = tt
 
+get_contains : (lanes : List Lane) (k : ℕ) (l : Lane) → slice_get lanes k ≡ Some l → Contains (senders_of lanes) l.sender
+get_contains lanes k l at = contains_at lanes k l (slice_get_within lanes k l at) (sym (get_or_from_slice_get lanes k l l at))
+
+from_at : (lanes : List Lane) (k : ℕ) (l : Lane) (answer : Result Parcel PortNo) → slice_get lanes k ≡ Some l → IfOk answer (λ p. p.from ≡ l.sender) → IfOk answer (λ p. Contains (senders_of lanes) p.from)
+from_at lanes k l (Ok p) at from = subst (Contains (senders_of lanes)) (sym from) (get_contains lanes k l at)
+from_at lanes k l (Err no_) at from = tt
+
 -- ---- the pull
 
 pulled_by : (pick : Pick) (keys : List ConnEnd) (m : Listener) (new : List Lane) (steps : List Step) (given : List Line) (log now : List PortEntry) (result : Result Got MotionNo) → calls_of steps ≡ log → Hears m steps given
     → Says m.order m.end.motion (senders_of m.lanes) (heard_of m.end.motion steps) given m.lanes pick → pick_of m.order (streams_of m.lanes) ≡ pick
-    → Pulls pick keys m.end m.order m.kinds m.lanes new log now result → Pulled m (record m { lanes = new; refused = refused_by result }) steps given now result
-unfolding Says took_end took_end_of
+    → Pulls pick keys m.end m.kinds m.lanes new log now result → Pulled m (record m { lanes = new; refused = refused_by result }) steps given now result
+unfolding Says
 pulled_by (Row k) keys m new steps given log now result calls h (row, rest, first, all, left) pick (is, kept, entry) =
     let sh = shown m steps given h in
     let answer : answer_of (pick_of m.order (streams_of m.lanes)) m.lanes ≡ got.Row row = ap (λ x. answer_of x m.lanes) pick ∙ ap row_or_more first in
@@ -350,11 +330,12 @@ pulled_by (Row k) keys m new steps given log now result calls h (row, rest, firs
       more = [];
       log = calls_same steps log now calls entry;
       makes = tt;
+      from = tt;
       leaves = (
         hears_as (record m { lanes = kept_by (pick_of m.order (streams_of m.lanes)) m.lanes }) (record m { lanes = new; refused = None }) (steps ++ []) (given ++ row ∷ []) refl refl refl (kept ∙ ap (λ x. kept_by x m.lanes) (sym pick))
             (subst (λ x. Hears (record m { lanes = kept_by (pick_of m.order (streams_of m.lanes)) m.lanes }) x (given ++ row ∷ [])) (sym same) hears),
-        subst (λ x. Tells m (given_of m x) given (got.Row row)) (sym same) tells,
-        tt,
+        tells,
+        refl,
         tt,
         tt,
       );
@@ -366,10 +347,11 @@ pulled_by Nothing keys m new steps given log now result calls h (all, ended) pic
       more = [];
       log = calls_same steps log now calls entry;
       makes = tt;
+      from = tt;
       leaves = (
         hears_as m (record m { lanes = new; refused = None }) (steps ++ []) (given ++ []) refl refl refl kept (subst (λ x. Hears m x (given ++ [])) (sym same) (subst (Hears m steps) (sym (append-nil given)) h)),
-        (ap (λ x. (given_of m x).rows) same ∙ all, ap (λ x. (given_of m x).ended) same ∙ ended),
-        tt,
+        (all, ended),
+        refl,
         tt,
         tt,
       );
@@ -378,21 +360,21 @@ pulled_by Any keys m new steps given log now result calls h (plain, all, wants, 
     let motion = m.end.motion in
     let waits : list_all (has_ended motion steps) (senders_of m.lanes) ≡ false = subst (λ o. (received o (senders_of m.lanes) (heard_of motion steps)).ended ≡ false) plain open_ in
     let once = no_end_yet motion steps (senders_of m.lanes) waits in
-    took m (end_all m.lanes) new steps given (Take motion) answer log now result calls h
-    (λ reply rows comes. record { all = all; wanted = sym wants; takes = eqb_same motion; from = comes; once = and_off (is_ended reply) (ended_by (is_take motion) steps) once })
-    (eqb_same motion) (may_any m.order m.lanes answer plain none) from (hears_end m steps given plain h) entry why_ makes
-pulled_by (One k) keys m new steps given log now result calls h (ks, a, ordered, all, at_a, wants, going) pick (l, at, answer, entry, why_, from, makes) =
+    took m new steps given (Take motion) answer log now result calls h
+    (λ reply rows. record { goes_on = open_; all = all; wanted = sym wants; takes = eqb_same motion; once = and_off (is_ended reply) (ended_by (is_take motion) steps) once })
+    (eqb_same motion) (may_any m.order m.lanes answer plain none) from entry why_ makes
+pulled_by (One k) keys m new steps given log now result calls h (ks, a, ordered, all, at_a, wants, going, open_) pick (l, at, answer, entry, why_, from, makes) =
     let motion = m.end.motion in
     let same : a ≡ l.sender = some_same (sym at_a ∙ get_sender m.lanes k l at) in
     let once = or_right (ended_by (is_take motion) steps) (ended_by (is_take_from motion l.sender) steps)
     (or_right ((input_of motion steps).whole l.sender) (ended_by (is_take motion) steps || ended_by (is_take_from motion l.sender) steps) (open_sender motion m.kinds steps m.lanes k l.sender h.each going (get_sender m.lanes k l at))) in
-    took m (end_at k m.lanes) new steps given (TakeFrom motion l.sender) answer log now result calls h
-    (λ reply rows comes. record { all = all; wanted = ap (λ x. Some (FromOne motion x)) (sym same) ∙ sym wants; takes = eqb_same motion; from = comes; once = and_off (is_ended reply) (ended_by (is_take_from motion l.sender) steps) once })
-    (eqb_same motion) (may_one m.order ks m.lanes k l answer ordered h.ascend at going from) (among_from answer (senders_of m.lanes) l.sender (contains_got m.lanes k l at) from) (hears_end_of m steps given ks k l.sender ordered going (get_sender m.lanes k l at) h) entry why_ makes
+    took m new steps given (TakeFrom motion l.sender) answer log now result calls h
+    (λ reply rows. record { goes_on = open_; all = all; wanted = ap (λ x. Some (FromOne motion x)) (sym same) ∙ sym wants; takes = eqb_same motion; once = and_off (is_ended reply) (ended_by (is_take_from motion l.sender) steps) once })
+    (eqb_same motion) (may_one m.order ks m.lanes k l answer ordered h.ascend at going from) (from_at m.lanes k l answer at from) entry why_ makes
   where
     some_same : {A : Type 0} {x y : A} → Some x ≡ Some y → x ≡ y
     some_same e = cc
 
 pub pulled : (keys : List ConnEnd) (m : Listener) (new : List Lane) (steps : List Step) (given : List Line) (log now : List PortEntry) (result : Result Got MotionNo) → calls_of steps ≡ log → Hears m steps given
-    → Pulls (pick_of m.order (streams_of m.lanes)) keys m.end m.order m.kinds m.lanes new log now result → Pulled m (record m { lanes = new; refused = refused_by result }) steps given now result
+    → Pulls (pick_of m.order (streams_of m.lanes)) keys m.end m.kinds m.lanes new log now result → Pulled m (record m { lanes = new; refused = refused_by result }) steps given now result
 pulled keys m new steps given log now result calls h w = pulled_by (pick_of m.order (streams_of m.lanes)) keys m new steps given log now result calls h (says m steps given h) refl w

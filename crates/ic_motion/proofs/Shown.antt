@@ -93,7 +93,7 @@ unfoldable pub Says : (order : Option (List Key)) (motion : ℕ) (as_ : List ℤ
 Says order motion as_ input given lanes (Row k) = (row : Line) × (rest : List Line) × (first_at k (streams_of lanes) ≡ Some row) × ((received order as_ input).rows ≡ (given ++ row ∷ []) ++ rest) × Left order (pop_at k lanes) input (given ++ row ∷ [])
 Says order motion as_ input given lanes Any = (order ≡ None) × ((received order as_ input).rows ≡ given) × (wants_of motion order as_ input ≡ Some (FromAny motion)) × AllByRecursion (λ (l : Lane). l.rows ≡ []) lanes × ((received order as_ input).ended ≡ false)
 Says order motion as_ input given lanes (One k) =
-    (keys : List Key) × (a : ℤ) × (order ≡ Some keys) × ((received order as_ input).rows ≡ given) × (slice_get as_ k ≡ Some a) × (wants_of motion order as_ input ≡ Some (FromOne motion a)) × IsOpen k (streams_of lanes)
+    (keys : List Key) × (a : ℤ) × (order ≡ Some keys) × ((received order as_ input).rows ≡ given) × (slice_get as_ k ≡ Some a) × (wants_of motion order as_ input ≡ Some (FromOne motion a)) × IsOpen k (streams_of lanes) × ((received order as_ input).ended ≡ false)
 Says order motion as_ input given lanes Nothing = ((received order as_ input).rows ≡ given) × ((received order as_ input).ended ≡ true)
 
 all_over : (motion : ℕ) (kinds : List Kind) (steps : List Step) (lanes : List Lane) → AllByRecursion (LaneHears motion kinds steps) lanes → list_all (has_ended motion steps) (senders_of lanes) ≡ list_all (λ (l : Lane). l.over) lanes
@@ -132,7 +132,8 @@ says_least motion keys lanes input given Any up m is h = absurd h
 says_least motion keys lanes input given (One k) up m is (waits, going) =
     let before = sorts_before keys in
     let n = steps_left before input (senders_of lanes) given (streams_of lanes) up m in
-    let now = ap (λ (s : Stream). s.rows) (now_given keys input (senders_of lanes) given (streams_of lanes) n.0 m n.1) in
+    let whole = now_given keys input (senders_of lanes) given (streams_of lanes) n.0 m n.1 in
+    let now = ap (λ (s : Stream). s.rows) whole in
     let first = asks_first motion before lanes k is in (
       keys,
       first.0,
@@ -141,6 +142,7 @@ says_least motion keys lanes input given (One k) up m is (waits, going) =
       first.1,
       ap (first_unknown motion (senders_of lanes)) (now_left keys input (senders_of lanes) given (streams_of lanes) n.0 m n.1 waits) ∙ first.2,
       going,
+      ap (λ (s : Stream). s.ended) whole ∙ ap (λ c. (going_on (merge_stream before n.0) c).ended) waits,
     )
 says_least motion keys lanes input given Nothing up m is over =
     let before = sorts_before keys in
@@ -203,7 +205,7 @@ shown_by m steps given (Row k) h (row, rest, first, now, left) =
       senders = senders_pop k m.lanes;
     })
 shown_by m steps given Any h (none, all, wants, empty, open_) = record { hears = subst (Hears m steps) (sym (append-nil given)) h; tells = all; senders = refl }
-shown_by m steps given (One k) h (keys, a, is, all, at, wants, open_) = record { hears = subst (Hears m steps) (sym (append-nil given)) h; tells = all; senders = refl }
+shown_by m steps given (One k) h (keys, a, is, all, at, wants, going, open_) = record { hears = subst (Hears m steps) (sym (append-nil given)) h; tells = all; senders = refl }
 shown_by m steps given Nothing h (all, ended) = record { hears = subst (Hears m steps) (sym (append-nil given)) h; tells = (all, ended); senders = refl }
 
 pub shown : (m : Listener) (steps : List Step) (given : List Line) → Hears m steps given → Shown m (kept_by (pick_of m.order (streams_of m.lanes)) m.lanes) steps given (answer_of (pick_of m.order (streams_of m.lanes)) m.lanes)

@@ -6,9 +6,8 @@ use Rattle.std.specs.Ordering.{int_eq}
 use Rattle.std.proofs.lemmas.Bool.Decides.{Decides-int_eq}
 use Rattle.ic_base.specs.declared.datagram.Parcel.{Parcel}
 use Rattle.ic_base.specs.declared.port.PortNo.{PortNo}
-use Rattle.ic_base.specs.declared.port.PortNo.TheVariants.{Empty, Ended}
+use Rattle.ic_base.specs.declared.port.PortNo.TheVariants.{Empty}
 use Rattle.ic_base.specs.declared.port.PortAsk.{PortAsk}
-use Rattle.ic_base.specs.declared.port.PortAsk.TheVariants.{Take, TakeFrom}
 use Rattle.ic_base.specs.declared.port.PortReply.TheVariants.{Refused}
 use Rattle.ic_row.specs.declared.value.Kind.{Kind}
 use Rattle.ic_row.specs.declared.order.Key.{Key}
@@ -18,12 +17,12 @@ use Rattle.pl_mean.specs.Outputs.{rows_in, came_from, stream_from, received}
 use Rattle.pl_runs.specs.Steps.{Step, input_of, parcels_in, parcels_by, takes_of, came_in, came_by, is_ended, is_take, is_take_from, halts_from}
 use Rattle.pl_runs.specs.Logs.{payloads_from}
 use Rattle.ic_motion.specs.Hearing.{has_ended, heard_of, HasKinds, Lane, Listener, senders_of, streams_of, rows_of, Ascends, Merged, Left, LaneHears, Hears}
-use Rattle.ic_motion.specs.Feeding.{Grows, place_of, end_one, end_all, end_at}
-use Rattle.ic_motion.proofs.Lists.{or_end, or_none, int_same, int_differ, below_apart, all_append, get_all}
-use Rattle.ic_motion.proofs.Readings.{ends_in, ended_more, took_more, rows_more, TookOne, rows_here, came_own, ends_own, eqb_same, no_halt}
+use Rattle.ic_motion.specs.Feeding.{Grows, place_of}
+use Rattle.ic_motion.proofs.Lists.{or_none, all_append, get_all}
+use Rattle.ic_motion.proofs.Readings.{ends_in, ended_more, took_more, rows_more, TookOne, rows_here, came_own, ends_own, no_halt}
 use Rattle.ic_motion.proofs.Picks.{IsOpen, none_held, one_held}
 use Rattle.ic_motion.proofs.Merges.{grow, merged_grows}
-use Rattle.ic_motion.proofs.Lanes.{IsQuiet, lane_quiet, lane_other, lanes_grow, senders_set, streams_grow, streams_end, open_start, IsOf, took_of, starts_grow, starts_same}
+use Rattle.ic_motion.proofs.Lanes.{IsQuiet, lane_other, lanes_grow, senders_set, streams_grow, open_start, took_of, starts_grow, starts_same}
 
 -- ---- a step that says nothing of the motion
 
@@ -105,111 +104,10 @@ ends_refused motion ask no_ a =
 pub empty_silent : (motion : ℕ) (ask : PortAsk) → takes_of motion ask ≡ true → IsSilent motion (record { entry = record { ask = ask; reply = Refused Empty }; rows = [] })
 empty_silent motion ask takes = record { parcels = refused_none motion ask Empty; ends = λ a. ends_refused motion ask Empty a; halts = λ a. no_halt motion a ask takes }
 
--- ---- nothing more comes from any sender
-
-end_lane : (motion : ℕ) (kinds : List Kind) (steps : List Step) (s : Step) (l : Lane) → IsQuiet motion s l.sender → ends_in motion s l.sender ≡ true → halts_from motion l.sender s.entry.ask ≡ false
-    → LaneHears motion kinds steps l → LaneHears motion kinds (steps ++ s ∷ []) (end_one l)
-end_lane motion kinds steps s l quiet ends halts h =
-    lane_quiet motion kinds steps s l (end_one l) quiet refl (sym (or_end l.over) ∙ ap (λ b. l.over || b) (sym ends)) (sym (or_none l.halted) ∙ ap (λ b. l.halted || b) (sym halts)) h
-
-lanes_end : (motion : ℕ) (kinds : List Kind) (steps : List Step) (s : Step) (lanes : List Lane) → parcels_in motion s ≡ [] → ((a : ℤ) → ends_in motion s a ≡ true) → ((a : ℤ) → halts_from motion a s.entry.ask ≡ false)
-    → AllByRecursion (LaneHears motion kinds steps) lanes → AllByRecursion (LaneHears motion kinds (steps ++ s ∷ [])) (end_all lanes)
-lanes_end motion kinds steps s [] none ends halts h = tt
-lanes_end motion kinds steps s (l ∷ lanes) none ends halts h =
-    (end_lane motion kinds steps s l (silent_quiet motion s l.sender none) (ends l.sender) (halts l.sender) h.0, lanes_end motion kinds steps s lanes none ends halts h.1)
-
-pub senders_end : (lanes : List Lane) → senders_of (end_all lanes) ≡ senders_of lanes
-senders_end [] = refl
-senders_end (l ∷ lanes) = ap (λ as_. l.sender ∷ as_) (senders_end lanes)
-
-rows_end : (lanes : List Lane) → flat_map rows_of (end_all lanes) ≡ flat_map rows_of lanes
-rows_end [] = refl
-rows_end (l ∷ lanes) = ap (λ r. l.rows ++ r) (rows_end lanes)
-
-unfoldable pub took_end : ℕ → Step
-took_end motion = record { entry = record { ask = Take motion; reply = Refused Ended }; rows = [] }
-
-pub hears_end : (m : Listener) (steps : List Step) (given : List Line) → m.order ≡ None → Hears m steps given → Hears (record m { lanes = end_all m.lanes }) (steps ++ took_end m.end.motion ∷ []) given × (senders_of (end_all m.lanes) ≡ senders_of m.lanes)
-unfolding took_end
-hears_end m steps given plain h =
-    let motion = m.end.motion in
-    let s : Step = record { entry = record { ask = Take motion; reply = Refused Ended }; rows = [] } in
-    let none = refused_none motion (Take motion) Ended in
-    let same = took_same motion steps s none in
-    let left : rows_in (input_of motion steps).took ≡ given ++ flat_map rows_of m.lanes = subst (λ o. Left o m.lanes (heard_of motion steps) given) plain h.left in (
-      record {
-        ascend = subst Ascends (sym (senders_end m.lanes)) h.ascend;
-        each = lanes_end motion m.kinds steps s m.lanes none (λ a. ends_refused motion (Take motion) Ended a ∙ ap (λ b. b || false) (eqb_same motion)) (λ a. refl) h.each;
-        left = subst (λ o. Left o (end_all m.lanes) (heard_of motion (steps ++ s ∷ [])) given) (sym plain) (ap rows_in same ∙ left ∙ ap (λ r. given ++ r) (sym (rows_end m.lanes)));
-        fit = subst (λ t. AllByRecursion (HasKinds m.kinds) (rows_in t)) (sym same) h.fit;
-      },
-      senders_end m.lanes,
-    )
-
--- ---- nothing more comes from one sender
-
-unfoldable pub took_end_of : ℕ → ℤ → Step
-took_end_of motion a = record { entry = record { ask = TakeFrom motion a; reply = Refused Ended }; rows = [] }
-
-ends_one : (motion : ℕ) (b a : ℤ) → ends_in motion (record { entry = record { ask = TakeFrom motion b; reply = Refused Ended }; rows = [] }) a ≡ int_eq b a
-ends_one motion b a = ends_refused motion (TakeFrom motion b) Ended a ∙ ap (λ t. t && int_eq b a) (eqb_same motion)
-
-lanes_pass_after : (motion : ℕ) (kinds : List Kind) (steps : List Step) (s : Step) (b : ℤ) (lanes : List Lane) → parcels_in motion s ≡ [] → ((a : ℤ) → ends_in motion s a ≡ int_eq b a) → ((a : ℤ) → halts_from motion a s.entry.ask ≡ false)
-    → AllByRecursion (λ x. b <ℤ x) (senders_of lanes) → AllByRecursion (LaneHears motion kinds steps) lanes → AllByRecursion (LaneHears motion kinds (steps ++ s ∷ [])) lanes
-lanes_pass_after motion kinds steps s b [] none ends halts lt h = tt
-lanes_pass_after motion kinds steps s b (l ∷ lanes) none ends halts lt h = (
-  lane_other motion kinds steps s l (silent_quiet motion s l.sender none) (ends l.sender ∙ int_differ b l.sender (below_apart b l.sender lt.0)) (halts l.sender) h.0,
-  lanes_pass_after motion kinds steps s b lanes none ends halts lt.1 h.1,
-)
-
 pub after_first : (a : ℤ) (as_ : List ℤ) (k : ℕ) (b : ℤ) → AllByRecursion (λ x. a <ℤ x) as_ → slice_get as_ k ≡ Some b → a <ℤ b
 after_first a [] k b lt at = cc
 after_first a (x ∷ as_) zero b lt at = let one : x ≡ b = cc in subst (λ y. a <ℤ y) one lt.0
 after_first a (x ∷ as_) (suc k) b lt at = after_first a as_ k b lt.1 at
-
-lanes_end_at : (motion : ℕ) (kinds : List Kind) (steps : List Step) (s : Step) (b : ℤ) (k : ℕ) (lanes : List Lane) → parcels_in motion s ≡ [] → ((a : ℤ) → ends_in motion s a ≡ int_eq b a) → ((a : ℤ) → halts_from motion a s.entry.ask ≡ false)
-    → Ascends (senders_of lanes) → slice_get (senders_of lanes) k ≡ Some b → AllByRecursion (LaneHears motion kinds steps) lanes → AllByRecursion (LaneHears motion kinds (steps ++ s ∷ [])) (end_at k lanes)
-lanes_end_at motion kinds steps s b k [] none ends halts up at h = tt
-lanes_end_at motion kinds steps s b zero (l ∷ lanes) none ends halts up at h =
-    let one : l.sender ≡ b = cc in (
-      end_lane motion kinds steps s l (silent_quiet motion s l.sender none) (ends l.sender ∙ int_same b l.sender (sym one)) (halts l.sender) h.0,
-      lanes_pass_after motion kinds steps s b lanes none ends halts (subst (λ y. AllByRecursion (λ x. y <ℤ x) (senders_of lanes)) one up.0) h.1,
-    )
-lanes_end_at motion kinds steps s b (suc k) (l ∷ lanes) none ends halts up at h =
-    let lt : l.sender <ℤ b = after_first l.sender (senders_of lanes) k b up.0 at in (
-      lane_other motion kinds steps s l (silent_quiet motion s l.sender none) (ends l.sender ∙ int_differ b l.sender (λ same. below_apart l.sender b lt (sym same))) (halts l.sender) h.0,
-      lanes_end_at motion kinds steps s b k lanes none ends halts up.1 at h.1,
-    )
-
-pub senders_end_at : (k : ℕ) (lanes : List Lane) → senders_of (end_at k lanes) ≡ senders_of lanes
-senders_end_at k [] = refl
-senders_end_at zero (l ∷ lanes) = refl
-senders_end_at (suc k) (l ∷ lanes) = ap (λ as_. l.sender ∷ as_) (senders_end_at k lanes)
-
-pub hears_end_of : (m : Listener) (steps : List Step) (given : List Line) (keys : List Key) (k : ℕ) (b : ℤ) → m.order ≡ Some keys → IsOpen k (streams_of m.lanes) → slice_get (senders_of m.lanes) k ≡ Some b → Hears m steps given
-    → Hears (record m { lanes = end_at k m.lanes }) (steps ++ took_end_of m.end.motion b ∷ []) given × (senders_of (end_at k m.lanes) ≡ senders_of m.lanes)
-unfolding took_end_of IsOf
-hears_end_of m steps given keys k b ordered going at h =
-    let motion = m.end.motion in
-    let s : Step = record { entry = record { ask = TakeFrom motion b; reply = Refused Ended }; rows = [] } in
-    let none = refused_none motion (TakeFrom motion b) Ended in
-    let same = took_same motion steps s none in
-    let left : Merged (sorts_before keys) (map (stream_from (heard_of motion steps)) (senders_of m.lanes)) given (streams_of m.lanes) = subst (λ o. Left o m.lanes (heard_of motion steps) given) ordered h.left in
-    let of : IsOf motion s b = λ a ne. (silent_quiet motion s a none, ends_one motion b a ∙ int_differ b a ne) in
-    let start = starts_grow motion steps s b [] true (senders_of m.lanes) k of (silent_quiet motion s b none).came (ends_one motion b b ∙ int_same b b refl) h.ascend at in
-    let grown = merged_grows (sorts_before keys) (map (stream_from (heard_of motion steps)) (senders_of m.lanes)) given (streams_of m.lanes) k [] true left (open_start motion m.kinds steps m.lanes k h.each going) in
-    let one : Merged (sorts_before keys) (map (stream_from (heard_of motion (steps ++ s ∷ []))) (senders_of m.lanes)) given (streams_of (end_at k m.lanes)) =
-    subst (λ x. Merged (sorts_before keys) x given (streams_of (end_at k m.lanes))) (sym start) (subst (Merged (sorts_before keys) (grow k [] true (map (stream_from (heard_of motion steps)) (senders_of m.lanes))) given) (sym (streams_end m.lanes k)) grown.0) in
-    let two : Left (Some keys) (end_at k m.lanes) (heard_of motion (steps ++ s ∷ [])) given =
-    subst (λ as_. Merged (sorts_before keys) (map (stream_from (heard_of motion (steps ++ s ∷ []))) as_) given (streams_of (end_at k m.lanes))) (sym (senders_end_at k m.lanes)) one in (
-      record {
-        ascend = subst Ascends (sym (senders_end_at k m.lanes)) h.ascend;
-        each = lanes_end_at motion m.kinds steps s b k m.lanes none (ends_one motion b) (λ a. refl) h.ascend at h.each;
-        left = subst (λ o. Left o (end_at k m.lanes) (heard_of motion (steps ++ s ∷ [])) given) (sym ordered) two;
-        fit = subst (λ t. AllByRecursion (HasKinds m.kinds) (rows_in t)) (sym same) h.fit;
-      },
-      senders_end_at k m.lanes,
-    )
 
 -- ---- a parcel
 

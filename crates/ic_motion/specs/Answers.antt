@@ -1,5 +1,5 @@
 -- What a pull answers, and how the answer is read.
-use Rattle.std.specs.Prelude.{◌≡◌, ◌⊎◌, ℕ, ◌≤◌, ℤ, Bool, true, false, List, [], ◌∷◌, Option, Some, None, Result, Ok, Err}
+use Rattle.std.specs.Prelude.{◌≡◌, ◌⊎◌, ℕ, ◌<◌, ◌≤◌, ℤ, Bool, true, false, List, [], ◌∷◌, Option, Some, None, Result, Ok, Err}
 use Rattle.ic_base.specs.declared.keys.ConnKey.{ConnKey}
 use Rattle.ic_base.specs.declared.port.PortNo.TheVariants.{Busy}
 use Rattle.ic_base.specs.Ports.{BusyRose}
@@ -45,6 +45,29 @@ row_in got.End = []
 -- no call was made, or one, which changed the port as a call may
 abbrev pub StepsOnce : {P : Type 0} → (P → P → Type 0) → P → P → Type 0
 StepsOnce steps old new = (new ≡ old) ⊎ steps old new
+
+-- a row and the end come without a call
+abbrev pub Touches : {P : Type 0} → (P → P → Type 0) → P → P → Result Got MotionNo → Type 0
+Touches steps old new (Ok (got.Row row)) = new ≡ old
+Touches steps old new (Ok got.End) = new ≡ old
+Touches steps old new (Ok got.More) = StepsOnce steps old new
+Touches steps old new (Ok (got.Wait no_)) = StepsOnce steps old new
+Touches steps old new (Err no_) = StepsOnce steps old new
+
+-- what a pull that called its port may answer
+abbrev pub IsAfterCall : Result Got MotionNo → Type 0
+IsAfterCall (Ok (got.Row row)) = ⊥
+IsAfterCall (Ok got.End) = ⊥
+IsAfterCall (Ok got.More) = Unit {0}
+IsAfterCall (Ok (got.Wait no_)) = Unit {0}
+IsAfterCall (Err no_) = Unit {0}
+
+-- of the rows held before and after: a row that is given is one less, and the end leaves none more
+abbrev pub RowsFall : Got → ℕ → ℕ → Type 0
+RowsFall (got.Row row) old new = new < old
+RowsFall got.More old new = Unit {0}
+RowsFall (got.Wait no_) old new = Unit {0}
+RowsFall got.End old new = new ≤ old
 
 -- the count of Busy never falls, and if the answer is to wait for another worker, it rose
 pub record WaitsBusy (before now : ℕ) (waits : Type 0) : Type 0 where

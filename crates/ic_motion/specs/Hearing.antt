@@ -1,5 +1,5 @@
 -- The receiving end of a motion: what a worker heard so far, and what is left of it to be given.
-use Rattle.std.specs.Prelude.{◌≡◌, ℕ, ℤ, ◌<ℤ◌, List, [], ◌∷◌, ◌++◌, map, flat_map, Bool, false, ◌||◌, Option, Some, None}
+use Rattle.std.specs.Prelude.{◌≡◌, ℕ, ℤ, ◌<ℤ◌, List, [], ◌∷◌, ◌++◌, length, map, flat_map, Bool, false, ◌||◌, Option, Some, None}
 use Rattle.std.specs.List.{AllByRecursion, AllZip}
 use Rattle.ic_row.specs.declared.value.Kind.{Kind}
 use Rattle.ic_row.specs.declared.order.Key.{Key}
@@ -55,6 +55,10 @@ senders_of lanes = map sender_of lanes
 
 abbrev pub rows_of : Lane → List Line
 rows_of l = l.rows
+
+-- how many rows are held of all senders
+abbrev pub rows_held : List Lane → ℕ
+rows_held lanes = length (flat_map rows_of lanes)
 
 -- the rows that are held, with the mark that no more come
 abbrev pub stream_of : Lane → Stream

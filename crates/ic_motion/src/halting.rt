@@ -96,7 +96,7 @@ fn done_or_more(tracks: &[Track]) -> Sent
 }
 
 /// Whether no more comes, or is wanted, of any sender.
-fn all_heard(tracks: &[Track]) -> bool
+pub(crate) fn all_heard(tracks: &[Track]) -> bool
     ensures { result ≡ all_heard tracks.now }
 {
     for track in tracks {

@@ -3,13 +3,13 @@ ghost use Rattle.std.specs.Prelude.{◌≡◌, ◌++◌, List, Result, [], map, 
 ghost use Rattle.pl_ops.specs.Rows.{Line};
 ghost use Rattle.pl_runs.specs.Steps.{Step, calls_of};
 ghost use Rattle.ic_motion.specs.declared.answers.MotionNo.{MotionNo};
-ghost use Rattle.ic_motion.specs.Answers.{refused_by, StepsOnce, WaitsBusy, PullWaits, SendWaits};
-ghost use Rattle.ic_motion.specs.Hearing.{fresh, fresh_lane, Ascends, IsUnheard, Hears, senders_of};
+ghost use Rattle.ic_motion.specs.Answers.{refused_by, StepsOnce, Touches, RowsFall, WaitsBusy, PullWaits, SendWaits};
+ghost use Rattle.ic_motion.specs.Hearing.{fresh, fresh_lane, Ascends, IsUnheard, Hears, senders_of, rows_held};
 ghost use Rattle.ic_motion.specs.Pulling.{Listens, SameIn, Pulled};
-ghost use Rattle.ic_motion.specs.Halting.{Halted};
+ghost use Rattle.ic_motion.specs.Halting.{Halted, all_heard};
 
 use crate::answers::{Got, MotionEnd, MotionNo, Sent, refused_by, refused_by_pull};
-use crate::halting::halt_next;
+use crate::halting::{all_heard, halt_next};
 use crate::taking::advance;
 use crate::track::Track;
 use ic_base::{Port, SegId, Segs};
@@ -63,8 +63,8 @@ impl MotionIn {
         })
     }
 
-    /// Gives the next row. If it isn't known, takes the next parcel first: from any sender, or with an order from the first
-    /// one whose next row isn't known.
+    /// Gives the next row. If it isn't known, takes the next parcel: from any sender, or with an order from the first one
+    /// whose next row isn't known. The rows of that parcel come with further pulls.
     ///
     /// With an order it looks at the next row of each sender. If it gives up for `Memory`, a parcel may have been taken and
     /// its rows lost.
@@ -73,7 +73,9 @@ impl MotionIn {
         ensures same { SameIn self.old self.new }
         ensures senders { IfOk result (λ _. senders_of self.new.lanes ≡ senders_of self.old.lanes) }
         ensures keys { P.keys port.new ≡ P.keys port.old }
-        ensures steps { StepsOnce P.steps port.old port.new }
+        // A row and the end come without a call.
+        ensures steps { Touches P.steps port.old port.new result }
+        ensures falls { IfOk result (λ got. RowsFall got (rows_held self.old.lanes) (rows_held self.new.lanes)) }
         ensures busy { WaitsBusy (P.busy port.old) (P.busy port.new) (PullWaits result) }
         ensures refused { self.new.refused ≡ refused_by result }
         ensures again { (no_ : MotionNo) → self.old.refused ≡ Some no_
@@ -96,6 +98,13 @@ impl MotionIn {
         );
         self.refused = refused_by_pull(&answer);
         answer
+    }
+
+    /// Whether nothing more comes, or is wanted, of any sender.
+    pub fn is_heard(&self) -> bool
+        ensures { result ≡ all_heard self.now.lanes }
+    {
+        all_heard(self.tracks.as_slice())
     }
 
     /// Halts the next sender from which more may come. If the answer is `More` or `Wait`, call it again.

@@ -82,13 +82,6 @@ impl Track {
         self.held.pop_front()
     }
 
-    /// Nothing more comes.
-    pub(crate) fn end(&mut self)
-        ensures { self.new ≡ record self.old { over = true } }
-    {
-        self.over = true;
-    }
-
     /// No more is wanted.
     pub(crate) fn halt(&mut self)
         ensures { self.new ≡ record self.old { halted = true } }

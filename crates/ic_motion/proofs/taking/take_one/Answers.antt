@@ -11,8 +11,8 @@ take_from-taken-requires g c =
     let lanes = c.args.tracks.now.items in
     c.requires.listens.heard c.sender-sender.result (subst (Contains (senders_of lanes)) (sym c.sender-sender.ensures) (contains_at lanes c.args.place c.index.result.now c.requires.below c.index.ensures))
 
-pub took_one-requires-clause-among : goal.took_one-requires-clause-among
-took_one-requires-clause-among g c =
+pub took-requires : goal.took-requires
+took-requires g c =
     let lanes = c.args.tracks.now.items in
     among_from c.take_from-taken.result (senders_of lanes) c.sender-sender.result (subst (Contains (senders_of lanes)) (sym c.sender-sender.ensures) (contains_at lanes c.args.place c.index.result.now c.requires.below c.index.ensures)) c.take_from-taken.ensures.from
 
@@ -25,5 +25,5 @@ returns-clause-pulls g c =
       subst (λ a. g.P.Port.log c.take_from-taken.new.self ≡ logged (TakeFrom c.args.end.now.motion a) (gave c.take_from-taken.result) (g.P.Port.log c.args.port.now)) c.sender-sender.ensures c.take_from-taken.ensures.log,
       c.take_from-taken.ensures.refusals,
       subst (λ a. IfOk c.take_from-taken.result (λ p. p.from ≡ a)) c.sender-sender.ensures c.take_from-taken.ensures.from,
-      c.took_one.ensures,
+      c.took.ensures.takes,
     )
