@@ -383,14 +383,17 @@ fn rows_of_two_senders_come_as_they_are_taken(rt: HostRuntime) -> Result<(), Fai
     hearing.port.answers(Answer::Refused(PortNo::Empty))?;
     hearing.port.answers(parcel(rt.alloc(), 1, &[], true)?)?;
     let wanted = [
+        Came::More,
         Came::Row(Some(3)),
         Came::Row(Some(1)),
+        Came::More,
         Came::Row(Some(2)),
         Came::Wait(PortNo::Empty),
+        Came::More,
         Came::End,
     ];
     assert_eq!(rt;
-        pulled(rt.alloc(), hearing, 5)?.as_slice(),
+        pulled(rt.alloc(), hearing, 8)?.as_slice(),
         wanted.as_slice()
     );
     Ok(())
@@ -411,6 +414,7 @@ fn an_ordered_gather_gives_the_least_head(rt: HostRuntime) -> Result<(), Fail> {
     let wanted = [
         Came::More,
         Came::Wait(PortNo::Empty),
+        Came::More,
         Came::Row(Some(1)),
         Came::Row(Some(2)),
         Came::Row(Some(3)),
@@ -418,7 +422,7 @@ fn an_ordered_gather_gives_the_least_head(rt: HostRuntime) -> Result<(), Fail> {
         Came::End,
     ];
     assert_eq!(rt;
-        pulled(rt.alloc(), hearing, 7)?.as_slice(),
+        pulled(rt.alloc(), hearing, 8)?.as_slice(),
         wanted.as_slice()
     );
     Ok(())
