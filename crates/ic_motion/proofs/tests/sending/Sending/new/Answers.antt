@@ -2,7 +2,7 @@ use Rattle.std.proofs.Common.{ℕ, ℤ, List, map, sym, ap, ◌∙◌, subst}
 use Rattle.ic_motion.specs.Sending.{Sender, fresh_target, receivers_of, SendsToEach}
 use Rattle.ic_motion.specs.Scripts.{script_ends}
 use Rattle.ic_motion.proofs.Scripts.{sends_both}
-use Rattle.ic_motion.proofs.tests.Sending.new.Goals as goal
+use Rattle.ic_motion.proofs.tests.sending.Sending.new.Goals as goal
 
 pub invariant_of-result : goal.invariant_of-result
 invariant_of-result c =

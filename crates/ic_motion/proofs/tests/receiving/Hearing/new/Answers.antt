@@ -3,7 +3,7 @@ use Rattle.ic_motion.specs.Hearing.{Listener, fresh_lane, senders_of}
 use Rattle.ic_motion.specs.Pulling.{Listens}
 use Rattle.ic_motion.specs.Scripts.{script_ends}
 use Rattle.ic_motion.proofs.Scripts.{hears_both}
-use Rattle.ic_motion.proofs.tests.Hearing.new.Goals as goal
+use Rattle.ic_motion.proofs.tests.receiving.Hearing.new.Goals as goal
 
 pub invariant_of-result : goal.invariant_of-result
 invariant_of-result c =
