@@ -48,7 +48,7 @@ pub enum MotionKind {
 pub enum Got {
     /// The next row.
     Row(Row),
-    /// Its call was answered, and no row can be given yet. Pull again at once.
+    /// A parcel was taken, and its rows come with further pulls. Pull again at once.
     More,
     /// The peer, the network or another worker: its call was answered `Empty` or `Busy`. Pull again later.
     Wait(PortNo),

@@ -67,7 +67,8 @@ impl MotionIn {
     /// whose next row isn't known. The rows of that parcel come with further pulls.
     ///
     /// With an order it looks at the next row of each sender. If it gives up for `Memory`, a parcel may have been taken and
-    /// its rows lost.
+    /// its rows lost. A take that is answered `Ended` is refused as `Memory` too: a hub that keeps its law answers no pull so,
+    /// if no sender was halted.
     pub fn pull<P: Port>(&mut self, alloc: Global, port: &mut P) -> Result<Got, MotionNo>
         requires listens { Listens (P.keys port.old) self.old.end.motion (senders_of self.old.lanes) }
         ensures same { SameIn self.old self.new }
@@ -107,7 +108,8 @@ impl MotionIn {
         all_heard(self.tracks.as_slice())
     }
 
-    /// Halts the next sender from which more may come. If the answer is `More` or `Wait`, call it again.
+    /// Halts the next sender from which more may come. If the answer is `More` or `Wait`, call it again. Pull no more
+    /// afterwards.
     pub fn halt_all<P: Port>(&mut self, alloc: Global, port: &mut P) -> Result<Sent, MotionNo>
         requires listens { Listens (P.keys port.old) self.old.end.motion (senders_of self.old.lanes) }
         ensures same { SameIn self.old self.new }
