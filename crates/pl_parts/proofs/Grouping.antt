@@ -1,5 +1,5 @@
 -- An aggregate over a bag: the order of the rows doesn't count.
-use Rattle.std.proofs.Common.{◌≡◌, ℕ, ◌+◌, Bool, true, false, not, length, Option, Some, None, List, [], ◌∷◌, ◌++◌, map, refl, sym, ap, ◌∙◌, subst, inl, inr, Ordering, Less, Equal, Greater}
+use Rattle.std.proofs.Common.{◌≡◌, ℕ, ◌+◌, Bool, true, false, not, List, [], ◌∷◌, ◌++◌, map, refl, sym, ap, ◌∙◌, subst, inl, inr, Ordering, Less, Equal, Greater}
 use Rattle.std.specs.Prelude.{◌⊎◌, ◌&&◌, filter}
 use Rattle.std.specs.Ordering.{is_eq}
 use Rattle.std.proofs.lemmas.Cmp.{tied_itself}
@@ -9,8 +9,8 @@ use Rattle.ic_row.specs.Order.{value_cmp}
 use Rattle.ic_row.proofs.TotalLemmas.{value_cmp_total, value_cmp_same}
 use Rattle.pl_tree.specs.declared.node.Call.{Call}
 use Rattle.pl_ops.specs.Rows.{Line as Row, same_value}
-use Rattle.pl_ops.specs.Groups.{same_line, differs, distinct, group_keys, in_group, brought, over, results_of, results_from, grouped, columns_from, aggregate_rows}
-use Rattle.pl_parts.proofs.Bags.{Perm, pnil, ptrans, alike, back, filter_perm}
+use Rattle.pl_ops.specs.Groups.{same_line, differs, distinct, group_keys, in_group, brought, over, results_of, results_from, grouped, aggregate_rows}
+use Rattle.pl_parts.proofs.Bags.{Perm, ptrans, alike, back, filter_perm}
 use Rattle.pl_parts.proofs.Members.{In, NoTwice, same_members, In-perm, In-filter, In-from_filter, NoTwice-filter, In-map, In-from_map, map_perm, map_in}
 use Rattle.pl_parts.proofs.Numbers.{both_true}
 use Rattle.pl_parts.proofs.Calls.{over-perm}

@@ -1,5 +1,5 @@
 -- Aggregates over segments, and in two stages.
-use Rattle.std.proofs.Common.{◌≡◌, ℕ, suc, ◌+◌, ◌<◌, Bool, true, false, cond, not, List, [], ◌∷◌, ◌++◌, map, length, refl, sym, ap, ◌∙◌, subst, inl, inr, ⊎_elim, arith, append_assoc, length-append}
+use Rattle.std.proofs.Common.{◌≡◌, ℕ, suc, ◌+◌, ◌<◌, Bool, true, false, cond, List, [], ◌∷◌, ◌++◌, map, length, refl, sym, ap, ◌∙◌, subst, inl, inr, ⊎_elim, arith, append_assoc, length-append}
 use Rattle.std.proofs.lemmas.List.{length-map, get_or_at, map-append}
 use Rattle.std.specs.Prelude.{◌⊎◌, filter, flat_map}
 use Rattle.ic_row.specs.declared.value.Value.{Value}
@@ -8,9 +8,9 @@ use Rattle.pl_ops.specs.Rows.{Line as Row}
 use Rattle.pl_parts.proofs.Forms.{Columns, totals, Slot, slot_value, brought_by, carried_from, firsts, aggregate_rows, final_rows, upto}
 use Rattle.pl_tree.specs.declared.node.Call.{Call}
 use Rattle.ic_row.specs.Values.{column, key_of}
-use Rattle.pl_ops.specs.Groups.{same_line, differs, distinct, group_keys, in_group, grouped, brought, over, joined_value}
-use Rattle.pl_parts.proofs.Bags.{Perm, ptrans, alike, back, flat_all, filter_perm, filter-flat_map, map-flat_map}
-use Rattle.pl_parts.proofs.Members.{In, NoTwice, same_members, In-perm, In-filter, In-from_filter, NoTwice-filter, In-map, In-from_map, In-flat, In-from_flat, map_perm, map_in, NoTwice-flat, filter_none}
+use Rattle.pl_ops.specs.Groups.{same_line, group_keys, in_group, grouped, brought, over, joined_value}
+use Rattle.pl_parts.proofs.Bags.{Perm, ptrans, alike, flat_all, filter-flat_map, map-flat_map}
+use Rattle.pl_parts.proofs.Members.{In, NoTwice, same_members, In-map, In-from_map, In-flat, In-from_flat, map_perm, map_in, NoTwice-flat, filter_none}
 use Rattle.pl_parts.proofs.Segments.{one_hit, NoTwice-upto}
 use Rattle.pl_parts.proofs.Grouping.{row_cases, NoTwice-groups, group_of_row, row_of_group, In-group_iff, Fair, row_for}
 use Rattle.pl_parts.proofs.Calls.{over-append, over-one, over-perm}

@@ -4,7 +4,6 @@ use Rattle.std.specs.Prelude.{ℕ, ℤ, pos, negsuc, List, [], ◌∷◌, ◌++�
 use Rattle.ic_row.specs.declared.value.Kind.TheVariants as kind
 use Rattle.pl_tree.specs.declared.node.Pair.{Pair}
 use Rattle.pl_tree.specs.declared.node.Call.TheVariants.{Count}
-use Rattle.pl_tree.specs.declared.schema.Schema.{Schema}
 use Rattle.pl_tree.specs.declared.schema.Placing.TheVariants as placing
 use Rattle.pl_tree.specs.declared.schema.Locus.TheVariants.{Replicated}
 use Rattle.pl_tree.specs.Trees.{Tree, Scan, Join, Partial, Final, Gather, Redistribute, Broadcast}
