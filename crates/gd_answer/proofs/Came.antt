@@ -7,7 +7,7 @@ use Rattle.std.proofs.lemmas.Bool.Decides.{Decides-int_eq}
 use Rattle.ic_base.specs.declared.datagram.Parcel.{Parcel}
 use Rattle.ic_base.specs.declared.port.PortReply.{PortReply}
 use Rattle.ic_base.specs.declared.port.PortReply.TheVariants as reply
-use Rattle.ic_chunk.specs.Assembly.{Assembles, IsStream}
+use Rattle.ic_chunk.specs.Assembly.{Assembles}
 use Rattle.ic_chunk.proofs.Lists.{all_both, all_front, all_back}
 use Rattle.ic_chunk.proofs.OneWay.{one_assembly}
 use Rattle.ic_law.specs.Taking.{parcels_from, is_last_parcel}
@@ -19,7 +19,7 @@ use Rattle.pl_answers.proofs.Growth.{came_join}
 use Rattle.gd_answer.proofs.Takes.{parcels_from-append}
 use Rattle.pl_runs.specs.Steps.{Step, takes_of, parcels_by, parcels_in, parcels_of, came_by, came_in, ends_stream}
 use Rattle.pl_runs.specs.Runs.{Every}
-use Rattle.pl_runs.specs.Logs.{payloads_from, payload_from, Completes, LetsOut, completes, spoils, IsRead}
+use Rattle.pl_runs.specs.Logs.{payloads_from, payload_from, LetsOut, completes, spoils, IsRead}
 
 -- ---- every step
 

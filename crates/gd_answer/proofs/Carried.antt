@@ -10,13 +10,13 @@ use Rattle.ic_row.specs.Spelling.{IsRow}
 use Rattle.ic_chunk.specs.Assembly.{Assembles}
 use Rattle.ic_law.specs.declared.history.Entry.{Entry}
 use Rattle.ic_law.specs.Points.{place_at}
-use Rattle.ic_law.specs.Putting.{chunks_put_of, IsFinished, finished_of}
+use Rattle.ic_law.specs.Putting.{chunks_put_of, finished_of}
 use Rattle.ic_law.specs.Taking.{parcels_from, parcels_of, payload_in, payloads_of, is_last_parcel, whole_of, IsWhole}
 use Rattle.ic_law.specs.Streams.{history_of, NetworkLaw, AreSent, StreamsFollow}
 use Rattle.ic_law.specs.Hub.{HubLaw}
 use Rattle.ic_law.proofs.Lists.{flat_map-append, list_any-append}
 use Rattle.gd_law.specs.Laws.{WholeWasFinished}
-use Rattle.pl_plan.specs.Motions.{Motion, Link, link_of, motions_in_plan, gang_of}
+use Rattle.pl_plan.specs.Motions.{Motion, link_of, motions_in_plan, gang_of}
 use Rattle.pl_plan.specs.Ends.{key_of}
 use Rattle.pl_ops.specs.Rows.{Line}
 use Rattle.pl_mean.specs.Outputs.{came_from}
@@ -24,11 +24,11 @@ use Rattle.pl_parts.proofs.Members.{In, All-in}
 use Rattle.pl_answers.specs.Runs.{Carries}
 use Rattle.pl_runs.specs.Steps as steps
 use Rattle.pl_runs.specs.Steps.{Step, put_on, finished_on, parcels_in, came_in, ends_stream, input_of}
-use Rattle.pl_runs.specs.Slices.{Worker, sending, output_of, cut, chunks_for}
+use Rattle.pl_runs.specs.Slices.{sending, output_of, cut}
 use Rattle.pl_runs.specs.Runs.{Course}
-use Rattle.pl_runs.specs.Logs.{ends_of, payload_from, payloads_from}
+use Rattle.pl_runs.specs.Logs.{ends_of, payloads_from}
 use Rattle.pl_runs.specs.Distributed.{Query, Courses, worker_at, IsWorked}
-use Rattle.gd_answer.specs.Clean.{rows_for, PutsRows, IsClean, AreClean}
+use Rattle.gd_answer.specs.Clean.{rows_for, PutsRows, AreClean}
 use Rattle.gd_answer.proofs.Puts.{put_so, finished_so}
 use Rattle.gd_answer.proofs.Takes.{takes_so, parcels_from-append}
 use Rattle.gd_answer.proofs.Ended.{ends_there}

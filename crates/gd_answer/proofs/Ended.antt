@@ -1,6 +1,5 @@
 -- Nothing is taken of a connection after its end.
-use Rattle.std.proofs.Common.{◌≡◌, ℕ, ℤ, List, [], ◌∷◌, ◌++◌, Bool, true, false, ◌&&◌, ◌||◌, ◌==◌, cond, Ok, Err, refl, ap, sym, ◌∙◌, subst, inl, inr, ◌⊎◌, append_assoc, append-nil}
-use Rattle.std.specs.Prelude.{Contains}
+use Rattle.std.proofs.Common.{◌≡◌, ℕ, ℤ, List, [], ◌∷◌, ◌++◌, Bool, true, false, ◌&&◌, ◌||◌, ◌==◌, cond, Ok, Err, refl, ap, sym, ◌∙◌, inl, inr, ◌⊎◌, append_assoc, append-nil}
 use Rattle.std.specs.List.{list_any}
 use Rattle.std.specs.Ordering.{int_eq}
 use Rattle.std.proofs.lemmas.Bool.Decides.{Decides-int_eq, Decides-eqb}
@@ -21,7 +20,7 @@ use Rattle.ic_law.specs.Queries.{was_begun}
 use Rattle.ic_law.specs.Asking.{AreEnds}
 use Rattle.ic_law.specs.Points.{Place, IsHere}
 use Rattle.ic_law.specs.Receiving.{AnswersTake, Over, None as NothingNext, Taken}
-use Rattle.ic_law.specs.Arriving.{IsOfMotion, AnswersTakeAny, AllOver, NoneReady, Serves}
+use Rattle.ic_law.specs.Arriving.{AnswersTakeAny, AllOver, NoneReady, Serves}
 use Rattle.ic_law.specs.Hub.{HubPoint, HubLaw}
 use Rattle.ic_law.proofs.Lists.{list_any-append, inside}
 use Rattle.ic_law.proofs.Readings.{fold_every, takes_cases, parcels_of-push}

@@ -1,15 +1,13 @@
 -- The rows of which chunks were put, and what the chunks assemble to.
 use Rattle.std.proofs.lemmas.List.{append_cancel_left}
-use Rattle.std.proofs.Common.{◌≡◌, ℕ, zero, suc, ◌+◌, ◌<◌, ◌≤◌, List, [], ◌∷◌, ◌++◌, length, map, take, drop, Bool, true, false, refl, ap, sym, ◌∙◌, subst, inl, inr, arith, append-nil, append_assoc, length-append, take-append-drop}
+use Rattle.std.proofs.Common.{◌≡◌, ℕ, zero, suc, ◌<◌, ◌≤◌, List, [], ◌∷◌, ◌++◌, length, map, take, drop, Bool, true, false, refl, ap, sym, ◌∙◌, subst, inl, inr, arith, append-nil, append_assoc, length-append, take-append-drop}
 use Rattle.std.proofs.lemmas.List.{map-append}
 use Rattle.std.specs.List.{AllByRecursion, AllZip, flat_map}
-use Rattle.ic_row.specs.declared.value.Value.{Value}
 use Rattle.ic_row.specs.Spelling.{spelling_of, IsRow, Spells}
-use Rattle.ic_chunk.specs.declared.chunk.ChunkKind.TheVariants.{EndOfStream}
 use Rattle.ic_chunk.specs.Chunks.{Chunk, IsChunk, spelled, payload_of, end_of_stream}
 use Rattle.ic_chunk.specs.Cutting.{chunks_of, bodies_of, group_of, room_in}
-use Rattle.ic_chunk.specs.Assembly.{IsPart, Assembles, together, ending}
-use Rattle.ic_chunk.proofs.Lists.{all_front, all_back, together-append}
+use Rattle.ic_chunk.specs.Assembly.{IsPart, Assembles, together}
+use Rattle.ic_chunk.proofs.Lists.{all_front, together-append}
 use Rattle.ic_chunk.proofs.CuttingLemmas.{bodies_of-more}
 use Rattle.ic_chunk.proofs.CutLaws.{cut_assembles}
 use Rattle.ic_chunk.proofs.Fronts.{front_assembles}

@@ -1,12 +1,11 @@
 -- Where a node stands in a plan: in which slice, with which gang, and which motions are below it.
-use Rattle.std.proofs.Common.{◌≡◌, ℕ, zero, suc, ◌+◌, ℤ, Bool, true, false, List, [], ◌∷◌, ◌++◌, map, length, Option, Some, None, refl, sym, ap, ◌∙◌, subst, arith, append_assoc, length-append}
+use Rattle.std.proofs.Common.{◌≡◌, ℕ, suc, ◌+◌, ℤ, List, [], ◌∷◌, ◌++◌, map, length, Some, refl, sym, ap, ◌∙◌, arith, append_assoc, length-append}
 use Rattle.std.specs.Prelude.{filter, get_or, slice_get}
 use Rattle.std.proofs.lemmas.List.{map-append, length-map}
 use Rattle.std.proofs.lemmas.List.Elements.{filter-append}
 use Rattle.pl_tree.specs.declared.schema.Schema.{Schema}
 use Rattle.pl_tree.specs.Trees.{Tree, Scan, Filter, Project, Limit, Sort, Join, Single, Partial, Final, Gather, Redistribute, Broadcast, motions_in, preorder}
-use Rattle.pl_tree.specs.Loci.{locus_of}
-use Rattle.pl_plan.specs.Motions.{Motion, dispatcher, gang_at, motions_of, motions_in_plan, gangs_in, gang_of}
+use Rattle.pl_plan.specs.Motions.{Motion, dispatcher, motions_of, motions_in_plan, gang_of}
 use Rattle.pl_plan.proofs.LayoutLaws.{motions_long}
 use Rattle.pl_ops.specs.Routing.{route_of}
 use Rattle.pl_runs.specs.Slices.{is_motion, motion_node, below_motion, top_of, route_at, route_in}

@@ -1,36 +1,26 @@
 -- What was put on a connection, by the history of the sender's node and by the steps of its worker.
-use Rattle.std.proofs.Common.{◌≡◌, ℕ, ℤ, List, [], ◌∷◌, ◌++◌, map, Bool, true, false, not, ◌&&◌, ◌||◌, ◌==◌, cond, Ok, Err, refl, ap, sym, ◌∙◌, subst, inl, inr, ◌⊎◌, append_assoc, append-nil}
+use Rattle.std.proofs.Common.{◌≡◌, ℕ, ℤ, List, [], ◌∷◌, ◌++◌, Bool, true, false, ◌&&◌, ◌||◌, ◌==◌, cond, Ok, Err, refl, ap, sym, ◌∙◌}
 use Rattle.std.specs.List.{AllByRecursion, flat_map, list_any}
 use Rattle.std.specs.Ordering.{int_eq}
-use Rattle.std.proofs.lemmas.Bool.Decides.{Decides-int_eq, Decides-eqb}
 use Rattle.ic_base.specs.declared.keys.ConnKey.{ConnKey}
 use Rattle.ic_base.specs.declared.keys.ConnEnd.{ConnEnd}
-use Rattle.ic_base.specs.declared.datagram.Datagram.{Datagram}
-use Rattle.ic_base.specs.declared.datagram.Parcel.{Parcel}
 use Rattle.ic_base.specs.declared.port.PortAsk.{PortAsk}
 use Rattle.ic_base.specs.declared.port.PortAsk.TheVariants as ask
-use Rattle.ic_base.specs.declared.port.PortReply.{PortReply}
 use Rattle.ic_base.specs.declared.port.PortEntry.{PortEntry}
-use Rattle.ic_base.specs.Keys.{key_eq}
-use Rattle.ic_base.proofs.SameKeys.{key_eq-tells}
 use Rattle.ic_law.specs.declared.history.HubAsk.{HubAsk}
 use Rattle.ic_law.specs.declared.history.HubAsk.TheVariants.{Begin, Put, Finish, Take, TakeFrom, Halt, Arrive, Tick, Clear, Leave}
 use Rattle.ic_law.specs.declared.history.HubReply.{HubReply}
 use Rattle.ic_law.specs.declared.history.HubReply.TheVariants.{Begun, Gave, Took, Came, Ticked, Cleared, Left, Memory}
 use Rattle.ic_law.specs.declared.history.HubNo.TheVariants as no
 use Rattle.ic_law.specs.declared.history.Entry.{Entry}
-use Rattle.ic_law.specs.Putting.{was_given, chunk_put, puts, chunks_put_of, is_finish, finishes, finished_of}
-use Rattle.ic_law.specs.Taking.{parcels_in, parcels_from, parcel_for, takes, parcels_of}
-use Rattle.ic_law.specs.Points.{Place, IsHere}
-use Rattle.ic_law.specs.Receiving.{AnswersTake, Over, None as NothingNext, Taken}
-use Rattle.ic_law.specs.Hub.{HubPoint, HubLaw}
-use Rattle.ic_law.specs.Logs.{put_logs, take_logs, halt_logs}
+use Rattle.ic_law.specs.Putting.{was_given, chunk_put, chunks_put_of, is_finish, finished_of}
+use Rattle.ic_law.specs.Logs.{put_logs}
 use Rattle.pl_parts.proofs.Bags.{flat_flat, flat-map}
 use Rattle.pl_runs.specs.Steps as steps
 use Rattle.pl_runs.specs.Steps.{Step, calls_of, is_done, chunk_of, ends_on, takes_of, parcels_by, put_on, finished_on}
 use Rattle.pl_runs.specs.Logs.{sends_by, hears_by, hears_motion, logs_by, logs, log_of}
 use Rattle.ic_law.proofs.Lists.{list_any-append}
-use Rattle.gd_answer.proofs.Ends.{sent_here, ends_here, differ, both, either, chosen, unchosen, AreOwn, SentSo, HeardSo, sent_key, heard_key, heard_motion, put_asks, take_asks, halt_asks, chosen_asks}
+use Rattle.gd_answer.proofs.Ends.{chosen, unchosen, AreOwn, sent_key, put_asks, take_asks, halt_asks, chosen_asks}
 
 -- ---- what an entry of a log says
 

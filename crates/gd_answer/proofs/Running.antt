@@ -15,20 +15,18 @@ use Rattle.pl_plan.specs.Motions as motions
 use Rattle.pl_plan.specs.Motions.{Motion, gang_at, motions_of, motions_in_plan, gang_of}
 use Rattle.pl_ops.specs.Rows.{Line}
 use Rattle.pl_ops.specs.Routing.{Route, ToAll, ToHashed, route_of}
-use Rattle.pl_ops.specs.Streams.{Stream}
 use Rattle.pl_mean.specs.Parts.{routed_to}
 use Rattle.pl_mean.specs.Outputs.{came_from, out}
 use Rattle.pl_mean.specs.Answers.{IsLawful}
 use Rattle.pl_parts.proofs.Members.{In, In-right, All-from_in}
 use Rattle.pl_answers.specs.Growing.{AreFrom, TookMore, AreMore, IsFront, OutputsGrow}
-use Rattle.pl_answers.specs.Runs.{Taken, by_worker, Carries, Serves, IsRun}
+use Rattle.pl_answers.specs.Runs.{Taken, Carries, Serves, IsRun}
 use Rattle.pl_answers.specs.Laws.{RootsGoOn, AnswersAreLawful}
 use Rattle.pl_runs.specs.Steps as steps
 use Rattle.pl_runs.specs.Steps.{Step, parcels_in, came_in, input_of, inputs_of}
 use Rattle.pl_runs.specs.Slices.{is_motion, top_of, route_in, below_motion, output_of}
-use Rattle.pl_runs.specs.Distributed.{Query, Courses, DistributedRun, IsOver, dispatcher, root_of, worker_at}
-use Rattle.gd_answer.specs.Clean.{rows_for}
-use Rattle.gd_answer.specs.Laws.{IsAsked, IsRunCleanly, IsOnItsWay, RunsGoOn, RunsAreLawful, RunsThatAreOverAreLawful}
+use Rattle.pl_runs.specs.Distributed.{Query, Courses, dispatcher, worker_at}
+use Rattle.gd_answer.specs.Laws.{IsAsked, IsRunCleanly, RunsGoOn, RunsAreLawful, RunsThatAreOverAreLawful}
 use Rattle.gd_answer.proofs.Places.{motions_below, StandsIn, root_stands, same_below, join_left, join_right, in_plan, senders_are, route_is, top_is, child_stands}
 use Rattle.gd_answer.proofs.Links.{in_contains}
 use Rattle.gd_answer.proofs.Came.{from_steps}

@@ -1,7 +1,6 @@
 -- What a worker put on a connection, by its steps: the first chunks of its output, and all of them if it finished.
-use Rattle.std.proofs.Common.{◌≡◌, ℕ, ℤ, pos, negsuc, List, [], ◌∷◌, ◌++◌, Bool, true, false, not, ◌&&◌, ◌||◌, ◌==◌, cond, refl, ap, sym, ◌∙◌, subst, inl, inr, ◌⊎◌, append_assoc, append-nil}
-use Rattle.std.specs.List.{AllByRecursion, list_any, flat_map}
-use Rattle.std.specs.Ordering.{int_eq}
+use Rattle.std.proofs.Common.{◌≡◌, ℕ, ℤ, pos, negsuc, List, [], ◌∷◌, ◌++◌, Bool, true, false, ◌||◌, cond, refl, ap, sym, ◌∙◌, inl, inr, ◌⊎◌, append_assoc, append-nil}
+use Rattle.std.specs.List.{list_any}
 use Rattle.std.proofs.lemmas.List.Elements.{filter-append}
 use Rattle.ic_base.specs.declared.port.PortAsk.{PortAsk}
 use Rattle.ic_base.specs.declared.port.PortAsk.TheVariants as ask
@@ -15,9 +14,8 @@ use Rattle.pl_answers.specs.Growing.{IsFront}
 use Rattle.pl_parts.proofs.Members.{In, All-in}
 use Rattle.pl_runs.specs.Steps.{Step, sends_on, ends_on, is_done, chunk_of, chunk_in, put_on, finishes, finished_on}
 use Rattle.pl_runs.specs.Slices.{Worker, sending, route_in, output_of, cut, chunks_for}
-use Rattle.pl_runs.specs.Runs.{Course, Every, PutsNext, EndsWith, FinishesLast, SliceRun}
-use Rattle.gd_answer.specs.Clean.{rows_for}
-use Rattle.gd_answer.proofs.Ends.{differ, both, either}
+use Rattle.pl_runs.specs.Runs.{Course, EndsWith, SliceRun}
+use Rattle.gd_answer.proofs.Ends.{differ, both}
 use Rattle.gd_answer.proofs.Pieces.{cut-append}
 
 -- ---- routing
