@@ -1,0 +1,7 @@
+pub mod Parts
+pub mod Operators
+pub mod Running
+pub mod Pulling
+pub mod Working
+pub mod Nodes
+pub mod Inside
