@@ -368,3 +368,25 @@ module _ (old new : Joining) (x y z : State) (log now : List PortEntry) (was : J
 
 pub right_fails_so : (old k : Joining) (x y z : State) (log now : List PortEntry) (was : Joining) → ((on : List Pair) → Wanted2 Right on was old) → (no_ : TreeNo) → PullsAny y z log now (Err no_) → PullsAny (Two was x y) (Two k x z) log now (Err no_)
 right_fails_so old k x y z log now was w no_ v = right_fails old k x y z log now was w k no_ v
+
+-- ---- by side
+
+pub side_row : (side : Side) (old new : Joining) (row : Line) (g : Pulled) → g ≡ got.Row row → ((on : List Pair) → joins.Given side on old new row) → Passed2 side old new g (Ok got.Step)
+side_row Left old new row g e f = λ x y z log now was w v. left_row old new x y z log now was w row f (subst (λ r. PullsAny x z log now (Ok r)) e v)
+side_row Right old new row g e f = λ x y z log now was w v. right_row old new x y z log now was w row f (subst (λ r. PullsAny y z log now (Ok r)) e v)
+
+pub side_end : (side : Side) (old new : Joining) (g : Pulled) → g ≡ got.End → ((on : List Pair) → joins.Ended side on old new) → Passed2 side old new g (Ok got.Step)
+side_end Left old new g e f = λ x y z log now was w v. left_end old new x y z log now was w f (subst (λ r. PullsAny x z log now (Ok r)) e v)
+side_end Right old new g e f = λ x y z log now was w v. right_end old new x y z log now was w f (subst (λ r. PullsAny y z log now (Ok r)) e v)
+
+pub side_step : (side : Side) (j : Joining) (g : Pulled) → g ≡ got.Step → Passed2 side j j g (Ok got.Step)
+side_step Left j g e = λ x y z log now was w v. left_step j j x y z log now was w refl (subst (λ r. PullsAny x z log now (Ok r)) e v)
+side_step Right j g e = λ x y z log now was w v. right_step j j x y z log now was w refl (subst (λ r. PullsAny y z log now (Ok r)) e v)
+
+pub side_more : (side : Side) (j : Joining) (g : Pulled) → g ≡ got.More → Passed2 side j j g (Ok got.More)
+side_more Left j g e = λ x y z log now was w v. left_more j j x y z log now was w refl (subst (λ r. PullsAny x z log now (Ok r)) e v)
+side_more Right j g e = λ x y z log now was w v. right_more j j x y z log now was w refl (subst (λ r. PullsAny y z log now (Ok r)) e v)
+
+pub side_wait : (side : Side) (j : Joining) (no_ : PortNo) (g : Pulled) → g ≡ got.Wait no_ → Passed2 side j j g (Ok (got.Wait no_))
+side_wait Left j no_ g e = λ x y z log now was w v. left_wait j j x y z log now was w no_ refl (subst (λ r. PullsAny x z log now (Ok r)) e v)
+side_wait Right j no_ g e = λ x y z log now was w v. right_wait j j x y z log now was w no_ refl (subst (λ r. PullsAny y z log now (Ok r)) e v)

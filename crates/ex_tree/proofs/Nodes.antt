@@ -217,3 +217,8 @@ module _ (old new : Op) (x y : State) (log now : List PortEntry) (was : Op) (w :
 
 pub one_fails_so : (old z : Op) (x y : State) (log now : List PortEntry) (was : Op) → ((p : Single) → Wanted p was old) → (no_ : TreeNo) → PullsAny x y log now (Err no_) → PullsAny (One was x) (One z y) log now (Err no_)
 one_fails_so old z x y log now was w no_ v = one_fails old z x y log now was w z no_ v
+
+-- what it wants, it wants of the left
+pub wanted_left : (old new : Op) (side : Side) → ((p : Single) → Answers (Gives p) (one_stream p) old new (next.Wants side)) → (p : Single) → Wanted p old new
+wanted_left old new Left f p = f p
+wanted_left old new Right f p = absurd (f p)

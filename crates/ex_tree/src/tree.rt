@@ -1,8 +1,9 @@
 // The operators of a slice over its motions.
-ghost use Rattle.std.specs.Prelude.{◌≡◌, ◌≤◌, List, IfOk, OnOk, MatchResult};
+ghost use Rattle.std.specs.Prelude.{◌≡◌, ◌≤◌, List, IfOk, IfErr, OnOk};
 ghost use Rattle.ic_base.specs.declared.keys.ConnEnd.{ConnEnd};
 ghost use Rattle.ic_motion.specs.Answers.{WaitsBusy};
 ghost use Rattle.ex_join.specs.Joins as joins;
+ghost use Rattle.ex_tree.specs.declared.answers.TreeNo.TheVariants.{Memory};
 ghost use Rattle.ex_tree.specs.Operators.{IsWanting, op_work};
 ghost use Rattle.ex_tree.specs.Running.{state_of, Scans, Ears, AreHeard, IsStill};
 ghost use Rattle.ex_tree.specs.Pulling.{PullsAny, Touches, PullWaits};
@@ -96,6 +97,7 @@ enum Asking {
 /// What an operator with one input gives by itself, or that it needs a row.
 fn asked(alloc: Global, op: &mut Op) -> Result<Asking, TreeNo>
     ensures turns { IfOk result (λ asking. Turns op.old op.new asking) }
+    ensures memory { IfErr result (λ no. no ≡ Memory) }
     ensures falls { IfOk result (AskingFalls (op_work op.old) (op_work op.new)) }
 {
     match op.next(alloc) {
@@ -114,10 +116,10 @@ fn passed(alloc: Global, op: &mut Op, got: Pulled) -> Result<Pulled, TreeNo>
     ensures work { OnOk result (PassedWork (op_work op.old) (op_work op.new) got) }
 {
     match got {
-        Pulled::Row(row) => {
-            op.give(alloc, row)?;
-            Ok(Pulled::Step)
-        }
+        Pulled::Row(row) => match op.give(alloc, row) {
+            Ok(()) => Ok(Pulled::Step),
+            Err(no) => Err(no),
+        },
         Pulled::Step => Ok(Pulled::Step),
         Pulled::More => Ok(Pulled::More),
         Pulled::Wait(no) => Ok(Pulled::Wait(no)),
@@ -131,6 +133,7 @@ fn passed(alloc: Global, op: &mut Op, got: Pulled) -> Result<Pulled, TreeNo>
 /// What a join gives by itself, or which side it needs.
 fn asked_join(alloc: Global, join: &mut HashJoin) -> Result<Asking, TreeNo>
     ensures turns { IfOk result (λ asking. Turns2 join.old join.new asking) }
+    ensures memory { IfErr result (λ no. no ≡ Memory) }
     ensures falls { IfOk result (AskingFalls (joins.work join.old) (joins.work join.new)) }
     ensures table { join.new.table ≡ join.old.table }
 {
@@ -185,41 +188,55 @@ impl<'a> Tree<'a> {
         match self {
             Tree::Rows(scan) => pull_scan(alloc, scan),
             Tree::Hears(motion) => pull_motion(alloc, motion, port),
-            Tree::One(op, _) => match asked(alloc, op)? {
-                Asking::Gave(got) => Ok(got),
-                Asking::Needs(_) => {
+            Tree::One(op, _) => match asked(alloc, op) {
+                Ok(Asking::Gave(got)) => Ok(got),
+                Ok(Asking::Needs(_)) => {
                     let Tree::One(_, child) = self else {
                         return Err(TreeNo::Memory);
                     };
-                    let got = child.pull(alloc, port)?;
-                    let Tree::One(op, _) = self else {
-                        return Err(TreeNo::Memory);
-                    };
-                    passed(alloc, op, got)
+                    match child.pull(alloc, port) {
+                        Ok(got) => {
+                            let Tree::One(op, _) = self else {
+                                return Err(TreeNo::Memory);
+                            };
+                            passed(alloc, op, got)
+                        }
+                        Err(no) => Err(no),
+                    }
                 }
+                Err(no) => Err(no),
             },
-            Tree::Two(join, _, _) => match asked_join(alloc, join)? {
-                Asking::Gave(got) => Ok(got),
-                Asking::Needs(Side::Left) => {
+            Tree::Two(join, _, _) => match asked_join(alloc, join) {
+                Ok(Asking::Gave(got)) => Ok(got),
+                Ok(Asking::Needs(Side::Left)) => {
                     let Tree::Two(_, left, _) = self else {
                         return Err(TreeNo::Memory);
                     };
-                    let got = left.pull(alloc, port)?;
-                    let Tree::Two(join, _, _) = self else {
-                        return Err(TreeNo::Memory);
-                    };
-                    passed_join(alloc, join, Side::Left, got)
+                    match left.pull(alloc, port) {
+                        Ok(got) => {
+                            let Tree::Two(join, _, _) = self else {
+                                return Err(TreeNo::Memory);
+                            };
+                            passed_join(alloc, join, Side::Left, got)
+                        }
+                        Err(no) => Err(no),
+                    }
                 }
-                Asking::Needs(Side::Right) => {
+                Ok(Asking::Needs(Side::Right)) => {
                     let Tree::Two(_, _, right) = self else {
                         return Err(TreeNo::Memory);
                     };
-                    let got = right.pull(alloc, port)?;
-                    let Tree::Two(join, _, _) = self else {
-                        return Err(TreeNo::Memory);
-                    };
-                    passed_join(alloc, join, Side::Right, got)
+                    match right.pull(alloc, port) {
+                        Ok(got) => {
+                            let Tree::Two(join, _, _) = self else {
+                                return Err(TreeNo::Memory);
+                            };
+                            passed_join(alloc, join, Side::Right, got)
+                        }
+                        Err(no) => Err(no),
+                    }
                 }
+                Err(no) => Err(no),
             },
         }
     }
