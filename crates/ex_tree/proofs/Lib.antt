@@ -5,3 +5,5 @@ pub mod Frames
 pub mod Nodes
 pub mod Joints
 pub mod Leaves
+pub mod Trees
+pub mod Works
