@@ -181,7 +181,7 @@ no_take_at m a (Put b c chunk) e = (refl, refl)
 no_take_at m a (Finish b c) e = (refl, refl)
 no_take_at m a (Halt b c) e = (refl, refl)
 
-no_parcels : (m : ℕ) (s : Step) → takes_of m s.entry.ask ≡ false → parcels_in m s ≡ []
+pub no_parcels : (m : ℕ) (s : Step) → takes_of m s.entry.ask ≡ false → parcels_in m s ≡ []
 no_parcels m s e = ap (λ b. cond b (parcels_by s.entry.reply) []) e
 
 and_no : (b : Bool) → (b && false) ≡ false

@@ -5,5 +5,6 @@ pub mod Frames
 pub mod Nodes
 pub mod Joints
 pub mod Leaves
+pub mod Halts
 pub mod Trees
 pub mod Works

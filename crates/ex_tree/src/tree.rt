@@ -7,8 +7,9 @@ ghost use Rattle.ex_tree.specs.declared.answers.TreeNo.TheVariants.{Memory};
 ghost use Rattle.ex_tree.specs.Operators.{IsWanting, op_work};
 ghost use Rattle.ex_tree.specs.Running.{state_of, Scans, Ears, AreHeard, IsStill};
 ghost use Rattle.ex_tree.specs.Pulling.{PullsAny, Touches, PullWaits};
+ghost use Rattle.ex_tree.specs.Halting.{HaltsAny, TouchesHalt, HaltWaits};
 ghost use Rattle.ex_tree.specs.Working.{Falls, work};
-ghost use Rattle.ex_tree.specs.Inside.{no_of_motion, tree_result};
+ghost use Rattle.ex_tree.specs.Inside.{no_of_motion, tree_result, halt_result};
 ghost use Rattle.ex_tree.specs.Nodes.{ScanPulls, Turns, Passed, PassedWork, Becomes, AskingFalls, Turns2, Passed2, PassedWork2};
 
 use crate::answers::{Pulled, TreeNo};
@@ -16,7 +17,7 @@ use crate::op::Op;
 use ex_basic::Scan;
 use ex_join::HashJoin;
 use ic_base::Port;
-use ic_motion::{Got, MotionIn, MotionNo};
+use ic_motion::{Got, MotionIn, MotionNo, Sent};
 use pl_ops::{Next, Side};
 use std::alloc::Global;
 
@@ -84,6 +85,35 @@ fn pull_motion<P: Port>(
     ensures falls { IfOk result (λ got. Falls got (work (Ears motion.old)) (work (Ears motion.new))) }
 {
     tree_result(motion.pull(alloc, port))
+}
+
+/// A halt that was made is one of several, and the last one too.
+fn halt_result(sent: Result<Sent, MotionNo>) -> Result<Sent, TreeNo>
+    ensures { result ≡ halt_result sent }
+{
+    match sent {
+        Ok(Sent::Wait(no)) => Ok(Sent::Wait(no)),
+        Ok(Sent::Done) | Ok(Sent::More) | Ok(Sent::AllStopped) => Ok(Sent::More),
+        Err(_) => Err(TreeNo::Memory),
+    }
+}
+
+fn halt_motion<P: Port>(
+    alloc: Global,
+    motion: &mut MotionIn,
+    port: &mut P,
+) -> Result<Sent, TreeNo>
+    requires { AreHeard (P.keys port.old) (Ears motion.old) }
+    ensures keys { P.keys port.new ≡ P.keys port.old }
+    ensures heard { (keys : List ConnEnd) → AreHeard keys (Ears motion.old) → AreHeard keys (Ears motion.new) }
+    ensures touches { TouchesHalt P.steps port.old port.new result }
+    ensures busy { WaitsBusy (P.busy port.old) (P.busy port.new) (HaltWaits result) }
+    ensures halts { HaltsAny (Ears motion.old) (Ears motion.new) (P.log port.old) (P.log port.new) result }
+{
+    if motion.is_heard() {
+        return Ok(Sent::Done);
+    }
+    halt_result(motion.halt_all(alloc, port))
 }
 
 /// What an operator does by itself.
@@ -236,6 +266,33 @@ impl<'a> Tree<'a> {
                         Err(no) => Err(no),
                     }
                 }
+                Err(no) => Err(no),
+            },
+        }
+    }
+
+    /// Halts the next sender that isn't heard out, of any motion. If the answer is `More` or `Wait`, call it again; `Done`
+    /// says that there is none.
+    pub fn halt<P: Port>(&mut self, alloc: Global, port: &mut P) -> Result<Sent, TreeNo>
+        requires { AreHeard (P.keys port.old) (state_of self.old) }
+        ensures keys { P.keys port.new ≡ P.keys port.old }
+        ensures heard { (keys : List ConnEnd) → AreHeard keys (state_of self.old) → AreHeard keys (state_of self.new) }
+        ensures touches { TouchesHalt P.steps port.old port.new result }
+        ensures busy { WaitsBusy (P.busy port.old) (P.busy port.new) (HaltWaits result) }
+        ensures halts { HaltsAny (state_of self.old) (state_of self.new) (P.log port.old) (P.log port.new) result }
+    {
+        match self {
+            Tree::Rows(_) => Ok(Sent::Done),
+            Tree::Hears(motion) => halt_motion(alloc, motion, port),
+            Tree::One(_, child) => child.halt(alloc, port),
+            Tree::Two(_, left, _) => match left.halt(alloc, port) {
+                Ok(Sent::Done) => {
+                    let Tree::Two(_, _, right) = self else {
+                        return Err(TreeNo::Memory);
+                    };
+                    right.halt(alloc, port)
+                }
+                Ok(sent) => Ok(sent),
                 Err(no) => Err(no),
             },
         }
