@@ -18,7 +18,11 @@ use Rattle.ex_tree.specs.declared.tree.Tree.TheOpen.{Tree-F}
 use Rattle.ex_tree.specs.declared.tree.Tree.TheFolds.{fold-roll-Tree}
 use Rattle.ex_tree.specs.Parts.{Single}
 use Rattle.ex_tree.specs.Running.{State, Scans, Ears, One, Two, state_of, state_step, AreHeard}
+use Rattle.ic_motion.specs.declared.answers.Sent.{Sent}
+use Rattle.ic_motion.specs.declared.answers.Sent.TheVariants.{Done}
 use Rattle.ex_tree.specs.Pulling.{PullsAny}
+use Rattle.ex_tree.specs.Halting.{HaltsAny}
+use Rattle.ex_tree.proofs.Halts.{right_halts}
 use Rattle.ex_tree.specs.Nodes.{Wanted, Passed, Wanted2, Passed2}
 use Rattle.ex_tree.proofs.Joints.{left_fails_so, right_fails_so}
 
@@ -128,4 +132,23 @@ module _ (s t : State) (was asked mid last new : Joining) (x y x1 y1 z x2 y2 : S
       subst (AreHeard keys) (sym u) (
         subst (AreHeard keys) (two_left asked mid x y x1 y1 e ∙ two_left mid last x1 z x2 y2 f) a.0,
         subst (AreHeard keys) (two_right mid last x1 z x2 y2 f) (h keys (subst (AreHeard keys) (two_right asked mid x y x1 y1 e) a.1)),
+      )
+
+-- ---- halts
+
+pub halts_as : (s t x y : State) (log now : List PortEntry) (result : Result Sent TreeNo) → s ≡ x → t ≡ y → HaltsAny x y log now result → HaltsAny s t log now result
+halts_as s t x y log now result d e f = subst (λ u. HaltsAny s u log now result) (sym e) (subst (λ u. HaltsAny u y log now result) (sym d) f)
+
+module _ (s t : State) (j mid : Joining) (x y w w1 y1 z : State) (d : s ≡ Two j x y) (e : Two j w y ≡ Two mid w1 y1) (u : t ≡ Two mid w1 z) where
+  pub both_halt : (log between now : List PortEntry) (result : Result Sent TreeNo) → HaltsAny x w log between (Ok Done) → HaltsAny y1 z between now result → HaltsAny s t log now result
+  both_halt log between now result f h =
+      halts_as s t (Two j x y) (Two j w z) log now result d (u ∙ sym (ap (λ k. Two k w z) (two_join j mid w y w1 y1 e) ∙ ap (λ k. Two mid k z) (two_left j mid w y w1 y1 e)))
+      (right_halts j x y w z log between now result f (halts_as y z y1 z between now result (two_right j mid w y w1 y1 e) refl h))
+
+  pub both_heard : ((keys : List ConnEnd) → AreHeard keys x → AreHeard keys w) → ((keys : List ConnEnd) → AreHeard keys y1 → AreHeard keys z) → (keys : List ConnEnd) → AreHeard keys s → AreHeard keys t
+  both_heard f h keys k =
+      let a = subst (AreHeard keys) d k in
+      subst (AreHeard keys) (sym u) (
+        subst (AreHeard keys) (two_left j mid w y w1 y1 e) (f keys a.0),
+        h keys (subst (AreHeard keys) (two_right j mid w y w1 y1 e) a.1),
       )

@@ -292,7 +292,9 @@ impl<'a> Tree<'a> {
                     };
                     right.halt(alloc, port)
                 }
-                Ok(sent) => Ok(sent),
+                Ok(Sent::More) => Ok(Sent::More),
+                Ok(Sent::Wait(no)) => Ok(Sent::Wait(no)),
+                Ok(Sent::AllStopped) => Ok(Sent::AllStopped),
                 Err(no) => Err(no),
             },
         }
