@@ -1,5 +1,6 @@
 pub mod Singles
 pub mod Fronts
+pub mod Planned
 pub mod Heard
 pub mod Frames
 pub mod Nodes

@@ -4,5 +4,6 @@ pub mod Running
 pub mod Pulling
 pub mod Halting
 pub mod Working
+pub mod Plans
 pub mod Nodes
 pub mod Inside

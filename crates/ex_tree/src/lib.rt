@@ -2,9 +2,11 @@
 #![tactic(auto)]
 
 mod answers;
+mod laws;
 mod op;
 mod tree;
 
 pub use answers::{Pulled, TreeNo};
+pub use laws::parts_are_of_plans;
 pub use op::Op;
 pub use tree::Tree;
