@@ -116,14 +116,20 @@ left_halts j x y z log now result undone v part steps given calls (on, l, r, is,
     by (Ok sents.Done) undone more h w = absurd (undone refl)
     by (Ok sents.More) undone more h w = (
       λ a. w.0 (λ t has. a t (subst (λ k. Has k t) (sym is) (inl has))),
-      (on, l, r, is, record {
-        from_left = q.from_left;
-        from_right = q.from_right;
-        left_child = own_halt l x z steps more q.from_left h q.left_child w.1;
-        right_child = beside_halt l r y steps more q.from_right q.apart h q.right_child;
-        gives = q.gives;
-        apart = q.apart;
-      }),
+      (
+        on,
+        l,
+        r,
+        is,
+        record {
+          from_left = q.from_left;
+          from_right = q.from_right;
+          left_child = own_halt l x z steps more q.from_left h q.left_child w.1;
+          right_child = beside_halt l r y steps more q.from_right q.apart h q.right_child;
+          gives = q.gives;
+          apart = q.apart;
+        },
+      ),
     )
     by (Ok (sents.Wait no_)) undone more h w =
         (w.0, w.1, (on, l, r, is, record { from_left = q.from_left; from_right = q.from_right; left_child = own_done l x z steps q.from_left q.left_child w.2; right_child = q.right_child; gives = q.gives; apart = q.apart }))
@@ -157,14 +163,20 @@ right_halts j x y w z log mid now result u v part steps given calls (on, l, r, i
     )
     by a runs (Ok sents.More) more h k = (
       λ b. k.0 (λ t has. b t (subst (λ m. Has m t) (sym is) (inr has))),
-      (on, l, r, is, record {
-        from_left = q.from_left;
-        from_right = q.from_right;
-        left_child = beside_halt r l w steps more q.from_left (turned l r q.apart) h (own_done l x w steps q.from_left q.left_child runs);
-        right_child = own_halt r y z steps more q.from_right h q.right_child k.1;
-        gives = q.gives;
-        apart = q.apart;
-      }),
+      (
+        on,
+        l,
+        r,
+        is,
+        record {
+          from_left = q.from_left;
+          from_right = q.from_right;
+          left_child = beside_halt r l w steps more q.from_left (turned l r q.apart) h (own_done l x w steps q.from_left q.left_child runs);
+          right_child = own_halt r y z steps more q.from_right h q.right_child k.1;
+          gives = q.gives;
+          apart = q.apart;
+        },
+      ),
     )
     by a runs (Ok (sents.Wait no_)) more h k =
         (k.0, k.1, (on, l, r, is, record { from_left = q.from_left; from_right = q.from_right; left_child = own_done l x w steps q.from_left q.left_child runs; right_child = own_done r y z steps q.from_right q.right_child k.2; gives = q.gives; apart = q.apart }))

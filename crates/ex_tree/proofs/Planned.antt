@@ -9,7 +9,10 @@ use Rattle.pl_mean.specs.Outputs as outputs
 use Rattle.pl_runs.specs.Steps.{Step, inputs_of}
 use Rattle.pl_runs.specs.Wanting as wanting
 use Rattle.ex_tree.specs.Parts as parts
-use Rattle.ex_tree.specs.Plans.{Place, IsOfPlan, part_of, final_at}
+use Rattle.pl_ops.specs.Rows.{Line}
+use Rattle.ex_tree.specs.Running.{State, Runs}
+use Rattle.ex_tree.specs.Plans.{Place, IsOfPlan, StandsBy, part_of, final_at}
+use Rattle.ex_tree.proofs.Frames.{runs_begin, runs_pass, out_pass, silent_at, quiet_so, IsSilentFor}
 
 final_gives : (i : ℕ) (o : Option Groups) (s : Stream) → parts.one_stream (final_at i o) s ≡ at_end (final_of o) s
 final_gives i None s = refl
@@ -23,8 +26,8 @@ module _ (s : Site) (p : Place) (steps : List Step) where
   -- an operator that is no limit
   over : (i n : ℕ) (op : parts.Single) (c : Tree) (gives : Stream → Stream) → ((t : Stream) → parts.one_stream op t ≡ gives t) → ((t : Stream) → parts.is_full op t ≡ false) → IsOfPlan s p (suc i) n c steps
       → (parts.out (parts.Over op (part_of s p (suc i) n c)) steps ≡ gives (outputs.out s (inputs_of steps) n c p.at))
-          × (parts.wants (parts.Over op (part_of s p (suc i) n c)) steps ≡ wanting.wanted s (inputs_of steps) n c p.at)
-          × (parts.is_satisfied (parts.Over op (part_of s p (suc i) n c)) steps ≡ wanting.is_satisfied s (inputs_of steps) n c p.at)
+      × (parts.wants (parts.Over op (part_of s p (suc i) n c)) steps ≡ wanting.wanted s (inputs_of steps) n c p.at)
+      × (parts.is_satisfied (parts.Over op (part_of s p (suc i) n c)) steps ≡ wanting.is_satisfied s (inputs_of steps) n c p.at)
   over i n op c gives same open_ h =
       let part = part_of s p (suc i) n c in (
         same (parts.out part steps) ∙ ap gives h.gives,
@@ -63,3 +66,16 @@ module _ (s : Site) (p : Place) (steps : List Step) where
   of_plan i n (Gather o c) = record { gives = refl; wants = refl; satisfied = refl }
   of_plan i n (Redistribute ks c) = record { gives = refl; wants = refl; satisfied = refl }
   of_plan i n (Broadcast c) = record { gives = refl; wants = refl; satisfied = refl }
+
+pub stands_by : (part : parts.Part) (st : State) (steps : List Step) (given : List Line) → Runs part st steps given → StandsBy part st steps given
+stands_by part st steps given r =
+    let f = runs_begin part st steps given r in
+    record {
+      rest = f.0;
+      front = f.1;
+      passes = λ s e.
+          let silent : IsSilentFor part s = λ t has. let k = e t has in silent_at t.end.motion s k.0 k.1 in (
+            runs_pass part st steps s silent given r,
+            out_pass part steps s (quiet_so part s silent),
+          );
+    }

@@ -74,7 +74,6 @@ right_falls g r i j k x y z w s p f e = by_step g r (joins.work i + both_work (t
     by (Wait no_) p f e = absurd e
     by End p f e = right_over (joins.work i) (joins.work k) (total i.table) (total k.table) x y z (let b = p.1 in omega (arith, b, s)) (let a = p.0 in omega (arith, a, w)) f
 
-
 -- ---- through one pull
 
 two_j : (a b : Joining) (w x y z : State) → Two a w x ≡ Two b y z → a ≡ b

@@ -1,5 +1,5 @@
 -- The part that a slice's worker runs, of a plan, and what holds of it.
-use Rattle.std.specs.Prelude.{◌≡◌, ℕ, suc, ◌+◌, ℤ, true, false, List, Option, Some, None}
+use Rattle.std.specs.Prelude.{◌≡◌, ℕ, suc, ◌+◌, ℤ, true, false, List, [], ◌∷◌, ◌++◌, Option, Some, None}
 use Rattle.ic_row.specs.declared.order.Key.{Key}
 use Rattle.pl_tree.specs.Trees.{Tree, Scan, Filter, Project, Limit, Sort, Join, Single, Partial, Final, Gather, Redistribute, Broadcast, motions_in, nodes_in}
 use Rattle.pl_tree.specs.Columns.{kinds_of}
@@ -8,7 +8,9 @@ use Rattle.pl_tree.specs.Partials.{Groups, partial_under}
 use Rattle.pl_plan.specs.Motions.{gang_at}
 use Rattle.pl_mean.specs.Parts.{Site, scanned}
 use Rattle.pl_mean.specs.Outputs as outputs
-use Rattle.pl_runs.specs.Steps.{Step, inputs_of}
+use Rattle.pl_runs.specs.Steps.{Step, inputs_of, takes_of, halts_from}
+use Rattle.pl_ops.specs.Rows.{Line}
+use Rattle.ex_tree.specs.Running.{State, Runs}
 use Rattle.pl_runs.specs.Wanting as wanting
 use Rattle.ic_motion.specs.declared.answers.MotionEnd.{MotionEnd}
 use Rattle.ex_tree.specs.Parts as parts
@@ -48,3 +50,13 @@ pub record IsOfPlan (s : Site) (p : Place) (i n : ℕ) (t : Tree) (steps : List 
   pub gives : parts.out (part_of s p i n t) steps ≡ outputs.out s (inputs_of steps) n t p.at
   pub wants : parts.wants (part_of s p i n t) steps ≡ wanting.wanted s (inputs_of steps) n t p.at
   pub satisfied : parts.is_satisfied (part_of s p i n t) steps ≡ wanting.is_satisfied s (inputs_of steps) n t p.at
+
+-- the step is of none of the part's motions: it takes from none, and halts no sender of one
+abbrev pub IsElsewhere : parts.Part → Step → Type 0
+IsElsewhere part s = (source : parts.Source) → parts.Has part source → (takes_of source.end.motion s.entry.ask ≡ false) × ((sender : ℤ) → halts_from source.end.motion sender s.entry.ask ≡ false)
+
+-- what a tree gave is the front of what its part gives, and a step elsewhere leaves both as they are
+pub record StandsBy (part : parts.Part) (st : State) (steps : List Step) (given : List Line) : Type 0 where
+  pub rest : List Line
+  pub front : (parts.out part steps).rows ≡ given ++ rest
+  pub passes : (s : Step) → IsElsewhere part s → Runs part st (steps ++ s ∷ []) given × (parts.out part (steps ++ s ∷ []) ≡ parts.out part steps)

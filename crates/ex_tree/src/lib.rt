@@ -15,6 +15,6 @@ mod op;
 mod tree;
 
 pub use answers::{Pulled, TreeNo};
-pub use laws::parts_are_of_plans;
+pub use laws::{parts_are_of_plans, trees_stand_by};
 pub use op::Op;
 pub use tree::Tree;

@@ -98,11 +98,7 @@ fn halt_result(sent: Result<Sent, MotionNo>) -> Result<Sent, TreeNo>
     }
 }
 
-fn halt_motion<P: Port>(
-    alloc: Global,
-    motion: &mut MotionIn,
-    port: &mut P,
-) -> Result<Sent, TreeNo>
+fn halt_motion<P: Port>(alloc: Global, motion: &mut MotionIn, port: &mut P) -> Result<Sent, TreeNo>
     requires { AreHeard (P.keys port.old) (Ears motion.old) }
     ensures keys { P.keys port.new ≡ P.keys port.old }
     ensures heard { (keys : List ConnEnd) → AreHeard keys (Ears motion.old) → AreHeard keys (Ears motion.new) }
