@@ -1,0 +1,11 @@
+pub mod Singles
+pub mod Fronts
+pub mod Planned
+pub mod Heard
+pub mod Frames
+pub mod Nodes
+pub mod Joints
+pub mod Leaves
+pub mod Halts
+pub mod Trees
+pub mod Works
