@@ -1,0 +1,13 @@
+mod Standing
+mod Spotted
+mod Sources
+mod Known
+mod Numbers
+mod Starting
+mod Ears
+mod Ends
+mod Receiving
+mod Tops
+mod Nodes
+mod Hearing
+mod Spread

@@ -1,0 +1,4 @@
+pub mod Spots
+pub mod Workers
+pub mod Sending
+pub mod Fitting
