@@ -29,7 +29,7 @@ use Rattle.ex_tree.specs.declared.answers.TreeNo.{TreeNo}
 use Rattle.ex_tree.specs.declared.answers.TreeNo.TheVariants as why
 use Rattle.ex_tree.specs.Parts.{Source, Part, Hears, Joins, Has, AreApart, out}
 use Rattle.ex_tree.specs.Running.{State, Scans, Ears, One, Two, Runs, RunsTwo, Asked, Holds, IsUncut, source_of}
-use Rattle.ex_tree.specs.Halting.{heard_from, AllHeard, IsHalted, LeavesHalt, Halts, HaltsAny}
+use Rattle.ex_tree.specs.Halting.{heard_from, AllHeard, IsHalted, MadeOne, LeavesHalt, Halts, HaltsAny}
 use Rattle.ex_tree.specs.Inside.{halt_result}
 use Rattle.ex_tree.proofs.Heard.{ended_is, uncut_by}
 use Rattle.ex_tree.proofs.Frames.{IsQuietFor, IsSilentFor, out_pass, runs_pass, asked_pass, silent_at, quiet_so, no_parcels}
@@ -92,7 +92,7 @@ one_halts op x y log now result v part steps given calls (p, c, is, r) =
 
     by : (result : Result Sent TreeNo) (more : List Step) → AtMostOne (IsHalted c steps) more → LeavesHalt c y steps more r.given.rows result → LeavesHalt part (One op y) steps more given result
     by (Ok sents.Done) more h w = (w.0, all_in w.1, (p, c, is, record { given = r.given; child = own_done c x y steps r.given r.child w.2; gives = r.gives }))
-    by (Ok sents.More) more h w = (λ a. w.0 (λ t has. a t (subst (λ k. Has k t) (sym is) has)), (p, c, is, record { given = r.given; child = own_halt c x y steps more r.given h r.child w.1; gives = r.gives }))
+    by (Ok sents.More) more h w = (λ a. w.0 (λ t has. a t (subst (λ k. Has k t) (sym is) has)), w.1, (p, c, is, record { given = r.given; child = own_halt c x y steps more r.given h r.child w.2; gives = r.gives }))
     by (Ok (sents.Wait no_)) more h w = (w.0, w.1, (p, c, is, record { given = r.given; child = own_done c x y steps r.given r.child w.2; gives = r.gives }))
     by (Ok sents.AllStopped) more h w = absurd w
     by (Err (why.Malformed key)) more h w = absurd w
@@ -116,6 +116,7 @@ left_halts j x y z log now result undone v part steps given calls (on, l, r, is,
     by (Ok sents.Done) undone more h w = absurd (undone refl)
     by (Ok sents.More) undone more h w = (
       λ a. w.0 (λ t has. a t (subst (λ k. Has k t) (sym is) (inl has))),
+      w.1,
       (
         on,
         l,
@@ -124,7 +125,7 @@ left_halts j x y z log now result undone v part steps given calls (on, l, r, is,
         record {
           from_left = q.from_left;
           from_right = q.from_right;
-          left_child = own_halt l x z steps more q.from_left h q.left_child w.1;
+          left_child = own_halt l x z steps more q.from_left h q.left_child w.2;
           right_child = beside_halt l r y steps more q.from_right q.apart h q.right_child;
           gives = q.gives;
           apart = q.apart;
@@ -163,6 +164,7 @@ right_halts j x y w z log mid now result u v part steps given calls (on, l, r, i
     )
     by a runs (Ok sents.More) more h k = (
       λ b. k.0 (λ t has. b t (subst (λ m. Has m t) (sym is) (inr has))),
+      k.1,
       (
         on,
         l,
@@ -172,7 +174,7 @@ right_halts j x y w z log mid now result u v part steps given calls (on, l, r, i
           from_left = q.from_left;
           from_right = q.from_right;
           left_child = beside_halt r l w steps more q.from_left (turned l r q.apart) h (own_done l x w steps q.from_left q.left_child runs);
-          right_child = own_halt r y z steps more q.from_right h q.right_child k.1;
+          right_child = own_halt r y z steps more q.from_right h q.right_child k.2;
           gives = q.gives;
           apart = q.apart;
         },
@@ -258,9 +260,27 @@ module _ (part : Part) (m new : Listener) (steps : List Step) (given : List Line
       let g : AllHeard (Hears (source_of m)) steps = subst (λ k. AllHeard k steps) is f in
       not_both (all_heard m.lanes) (all_lanes m.end.motion m.kinds steps m.lanes h.uncut h.hears.each (g (source_of m) refl)) open_
 
+  -- without a call all would have been heard before
+  made_last : (more : List Step) → AtMostOne (IsHalted part steps) more → hearing.Hears new (steps ++ more) given → all_heard new.lanes ≡ true → MadeOne more
+  made_last [] makes hears all = absurd (not_both (all_heard m.lanes) (all_lanes m.end.motion m.kinds steps m.lanes h.uncut h.hears.each heard) open_)
+    where
+      uncut : IsUncut new.end.motion (steps ++ [])
+      uncut = subst (λ (x : Source). IsUncut x.end.motion (steps ++ [])) (sym source) (uncut_halt m.end.motion part steps [] makes h.uncut)
+
+      in_new : (a : ℤ) → Contains (senders_of new.lanes) a → heard_from new.end.motion a (steps ++ []) ≡ true
+      in_new = lanes_all new.end.motion new.kinds (steps ++ []) new.lanes uncut hears.each all
+
+      in_old : (a : ℤ) → Contains (senders_of m.lanes) a → heard_from m.end.motion a (steps ++ []) ≡ true
+      in_old = subst (λ (x : Source). (a : ℤ) → Contains x.senders a → heard_from x.end.motion a (steps ++ []) ≡ true) source in_new
+
+      heard : (a : ℤ) → Contains (senders_of m.lanes) a → heard_from m.end.motion a steps ≡ true
+      heard a has = subst (λ k. heard_from m.end.motion a k ≡ true) (append-nil steps) (in_old a has)
+  made_last (s ∷ []) makes hears all = (s, refl)
+  made_last (s ∷ t ∷ more) makes hears all = absurd makes
+
   halt_leaves : (more : List Step) (result : Result Sent MotionNo) → AtMostOne (IsHalted part steps) more → new.refused ≡ refused_by result → halting.LeavesHalt new steps more given result → LeavesHalt part (Ears new) steps more given (halt_result result)
-  halt_leaves more (Ok sents.Done) makes going (hears, tells) = (not_all, halting_on more makes going hears)
-  halt_leaves more (Ok sents.More) makes going (hears, tells) = (not_all, halting_on more makes going hears)
+  halt_leaves more (Ok sents.Done) makes going (hears, tells) = (not_all, made_last more makes hears tells, halting_on more makes going hears)
+  halt_leaves more (Ok sents.More) makes going (hears, tells) = (not_all, (tells.1.0, tells.1.1), halting_on more makes going hears)
   halt_leaves more (Ok (sents.Wait no_)) makes going (hears, tells) = by no_ tells
     where
       by : (no_ : PortNo) → halting.TellsHalt new.lanes more (sents.Wait no_) → LeavesHalt part (Ears new) steps more given (Ok (sents.Wait no_))

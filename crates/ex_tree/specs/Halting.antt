@@ -32,10 +32,14 @@ pub record IsHalted (part : Part) (steps : List Step) (s : Step) : Type 0 where
   pub going : heard_from source.end.motion sender steps ≡ false
   pub read : IsRead steps s
 
--- Done exactly if each sender was heard out before; then no call is made. After a refusal nothing is said of the tree.
+-- a call was made
+abbrev pub MadeOne : List Step → Type 0
+MadeOne more = (s : Step) × (more ≡ s ∷ [])
+
+-- Done exactly if each sender was heard out before; then no call is made. More says that one was made. After a refusal nothing is said of the tree.
 abbrev pub LeavesHalt : Part → State → (steps more : List Step) → List Line → Result Sent TreeNo → Type 0
 LeavesHalt part new steps more given (Ok Done) = (more ≡ []) × AllHeard part steps × Runs part new steps given
-LeavesHalt part new steps more given (Ok More) = (AllHeard part steps → ⊥) × Runs part new (steps ++ more) given
+LeavesHalt part new steps more given (Ok More) = (AllHeard part steps → ⊥) × MadeOne more × Runs part new (steps ++ more) given
 LeavesHalt part new steps more given (Ok (Wait no_)) = (more ≡ []) × (no_ ≡ Busy) × Runs part new steps given
 LeavesHalt part new steps more given (Ok AllStopped) = ⊥
 LeavesHalt part new steps more given (Err (why.Malformed key)) = ⊥

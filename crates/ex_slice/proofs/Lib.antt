@@ -1,0 +1,16 @@
+pub mod Lists
+pub mod Asks
+pub mod Links
+pub mod Points
+pub mod Sendings
+pub mod Limits
+pub mod Holding
+pub mod Passing
+pub mod Fetching
+pub mod Pullings
+pub mod Rowed
+pub mod Puttings
+pub mod Endings
+pub mod Haltings
+pub mod Ready
+pub mod Fresh

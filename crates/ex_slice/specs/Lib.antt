@@ -1,0 +1,5 @@
+pub mod Serving
+pub mod Working
+pub mod Turning
+pub mod Acting
+pub mod Slicing
