@@ -1,0 +1,15 @@
+pub mod Places
+pub mod Finding
+pub mod Recalling
+pub mod Made
+pub mod Asked
+pub mod Standing
+pub mod Settling
+pub mod PlanEnds
+pub mod Meeting
+pub mod Seating
+pub mod Networks
+pub mod Sending
+pub mod Running
+pub mod Adding
+pub mod Played

@@ -1,0 +1,12 @@
+use Rattle.std.proofs.Common.{refl}
+use Rattle.gd_world.proofs.Adding.{may_begin_it, begin_adds}
+use Rattle.gd_world.proofs.world.World.begin.Goals as goal
+
+pub begin-requires : goal.begin-requires
+begin-requires c =
+    let may = c.if-not-may_begin.ensures.may in may_begin_it c.args.at c.in_ok-ends.ends.items c.args.self.now may.0 c.requires c.may_begin.ensures.back may.1 may.2 c.in_ok-ends.ensures
+
+pub returns-clause-ok : goal.returns-clause-ok
+returns-clause-ok c =
+    let may = c.if-not-may_begin.ensures.may in
+    begin_adds c.args.at c.in_ok-ends.ends.items may.0 c.args.self.now _ may.1 c.in_ok-ends.ensures (record { plan = refl; query = refl; seats = refl }) refl c.in_ok-begin.ensures.ok
