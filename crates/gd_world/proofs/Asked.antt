@@ -5,6 +5,7 @@ use Rattle.ic_base.specs.declared.keys.ConnEnd.{ConnEnd}
 use Rattle.ic_base.specs.declared.datagram.Datagram.{Datagram}
 use Rattle.ic_law.specs.declared.history.HubAsk.{HubAsk}
 use Rattle.ic_law.specs.declared.history.HubAsk.TheVariants as ask
+use Rattle.ic_law.specs.declared.history.HubReply.{HubReply}
 use Rattle.ic_law.specs.declared.history.HubReply.TheVariants as reply
 use Rattle.ic_law.specs.declared.history.Entry.{Entry}
 use Rattle.ic_law.specs.Streams.{node_of}
@@ -14,25 +15,22 @@ use Rattle.gd_world.specs.declared.step.Step.{Step}
 use Rattle.gd_world.specs.Doings.{Doing}
 use Rattle.gd_world.specs.Events.{segment_at, asked}
 use Rattle.gd_world.specs.Sessions.{Sessional, emitted_by}
-use Rattle.gd_world.specs.Inside.{Stays, Moves, Does, Enters, EntersAsked}
+use Rattle.gd_world.specs.Inside.{StaysBy, Does, Enters, EntersAsked}
 
 -- ---- a node
 
 -- an entry more, and else as before
-pub does_add : (asking : HubAsk) (e : Entry) (a b : Noding) → e.ask ≡ asking → Adds e a b → Does Stays asking a b
+pub does_add : (asking : HubAsk) (e : Entry) (a b : Noding) → e.ask ≡ asking → Adds e a b → Does StaysBy asking a b
 does_add asking e a b is adds = record {
   reply = e.reply;
   place = adds.place;
   grown = adds.entries ∙ ap (λ k. a.entries ++ record { ask = k; reply = e.reply } ∷ []) is;
-  goes = (adds.query, inl adds.ends);
+  goes = (adds.query, adds.ends);
 }
-
-pub moves_too : (asking : HubAsk) (query : ℕ) (ends : List ConnEnd) (a b : Noding) → Does Stays asking a b → Does (Moves query ends) asking a b
-moves_too asking query ends a b does = record { reply = does.reply; place = does.place; grown = does.grown; goes = inl does.goes }
 
 -- ---- a session
 
-pub entered : (Goes : Noding → Noding → Type 0) (at : ℤ) (s : Step) (asking : HubAsk) (a b : Sessional) (node now : Noding) → at ≡ segment_at (node_of at) → slice_get a.nodes (node_of at) ≡ Some node → Does Goes asking node now
+pub entered : (Goes : HubReply → Noding → Noding → Type 0) (at : ℤ) (s : Step) (asking : HubAsk) (a b : Sessional) (node now : Noding) → at ≡ segment_at (node_of at) → slice_get a.nodes (node_of at) ≡ Some node → Does Goes asking node now
     → b.nodes ≡ set a.nodes (node_of at) now → b.past ≡ a.past ++ record { step = s; turned = None; entry = Some (length node.entries) } ∷ [] → EntersAsked Goes at s asking a b
 entered Goes at s asking a b node now back here does nodes past = record {
   reply = does.reply;

@@ -3,13 +3,16 @@ pub mod Finding
 pub mod Recalling
 pub mod Made
 pub mod Asked
+pub mod Marking
 pub mod Standing
 pub mod Settling
 pub mod PlanEnds
+pub mod Seats
 pub mod Meeting
 pub mod Seating
 pub mod Networks
 pub mod Sending
 pub mod Running
 pub mod Adding
+pub mod Idling
 pub mod Played

@@ -31,7 +31,7 @@ numbers_once first zero = tt
 numbers_once first (suc n) =
     (λ i. let w = numbers_high (suc first) n (pos first) i in let same : first ≡ w.0 = let e = w.1 in cc in omega (arith, same, w.2), numbers_once (suc first) n)
 
-gang_once : (segments : ℕ) (l : Locus) → NoTwice (gang_at segments l)
+pub gang_once : (segments : ℕ) (l : Locus) → NoTwice (gang_at segments l)
 gang_once segments Entry = numbers_once 0 segments
 gang_once segments (Hashed columns) = numbers_once 0 segments
 gang_once segments Replicated = numbers_once 0 1

@@ -29,11 +29,12 @@ use Rattle.gd_world.specs.Sessions.{Sessional, Recalls}
 use Rattle.gd_world.specs.Turns.{Taken, taken_in, turns_of, logs_turn, logged_by}
 use Rattle.gd_world.specs.Workers.{AreSeats, WorkerStands, worker_in, ends_in}
 use Rattle.gd_world.specs.Worlds.{Account, all_events, with_event, all_ends, running, IsReached, Stands}
-use Rattle.gd_world.specs.Steps.{Goes, Steps}
-use Rattle.gd_world.specs.Inside.{Enters, Stays, Sat, TakesTurn, MaySit, added, place_in}
+use Rattle.gd_world.specs.Steps.{Goes, TurnsAt}
+use Rattle.gd_world.specs.Inside.{Enters, Stays, Sat, TakesTurn, MaySit, marked, added, place_in}
 use Rattle.gd_world.proofs.Places.{get_set, same_some, eqb_same, int_same}
 use Rattle.gd_world.proofs.Recalling.{entry_here, entry_there, place_same, recalls_on, session_on}
-use Rattle.gd_world.proofs.Standing.{SameQuery, joined, log_append, reached_on}
+use Rattle.gd_world.proofs.Marking.{stays_reached, marks_same, left_on}
+use Rattle.gd_world.proofs.Standing.{SameQuery, joined, log_append}
 use Rattle.gd_world.proofs.Meeting.{own_is}
 use Rattle.gd_world.proofs.Settling.{TurnEntry, turn_entry, sat_by, added_place, worker_on}
 
@@ -75,20 +76,20 @@ others_stay own ends others old new answer a b (inr done) sat entry apart = ap (
 -- ---- the event of a turn
 
 -- the entry of a turn that was taken
-abbrev pub entry_of : (at : ℤ) (number : ℕ) (old new : Working) (a b : Sessional) → TakesTurn at number old new a b → Option Entry
-entry_of at number old new a b t = (turn_entry (own_ends t.node.ends number) t.node t.now t.sat.node).entry
+abbrev pub entry_of : (answer : Answer) (at : ℤ) (number : ℕ) (old new : Working) (a b : Sessional) → TakesTurn answer at number old new a b → Option Entry
+entry_of answer at number old new a b t = (turn_entry (own_ends t.node.ends number) t.node t.now t.sat.node).entry
 
-abbrev pub turn_event : (at : ℤ) (number : ℕ) (old new : Working) (a b : Sessional) → TakesTurn at number old new a b → Event
-turn_event at number old new a b t = record {
-  did = record { step = step.Turn number at; turned = Some t.answer; entry = place_in t.node (entry_of at number old new a b t) };
-  entry = entry_of at number old new a b t;
+abbrev pub turn_event : (answer : Answer) (at : ℤ) (number : ℕ) (old new : Working) (a b : Sessional) → TakesTurn answer at number old new a b → Event
+turn_event answer at number old new a b t = record {
+  did = record { step = step.Turn number at; turned = Some answer; entry = place_in t.node (entry_of answer at number old new a b t) };
+  entry = entry_of answer at number old new a b t;
 }
 
-module _ (at : ℤ) (number : ℕ) (old new : Working) (a b : Sessional) (t : TakesTurn at number old new a b) where
+module _ (answer : Answer) (at : ℤ) (number : ℕ) (old new : Working) (a b : Sessional) (t : TakesTurn answer at number old new a b) where
   abbrev of_turn : TurnEntry (own_ends t.node.ends number) t.node t.now
   of_turn = turn_entry (own_ends t.node.ends number) t.node t.now t.sat.node
 
-  abbrev pub turn_enters : Enters Stays at (step.Turn number at) (Some t.answer) (entry_of at number old new a b t) a b
+  abbrev pub turn_enters : Enters Stays at (step.Turn number at) (Some answer) (entry_of answer at number old new a b t) a b
   turn_enters = record {
     node = t.node;
     now = t.now;
@@ -96,24 +97,24 @@ module _ (at : ℤ) (number : ℕ) (old new : Working) (a b : Sessional) (t : Ta
     here = t.here;
     place = of_turn.place;
     grown = of_turn.grown;
-    goes = (of_turn.query, inl of_turn.ends_are);
+    goes = (of_turn.query, of_turn.ends_are);
     nodes = t.nodes;
     past =
         t.past
-        ∙ ap (λ p. a.past ++ record { step = step.Turn number at; turned = Some t.answer; entry = p } ∷ []) (added_place t.node (entry_of at number old new a b t) t.now.entries of_turn.grown);
+        ∙ ap (λ p. a.past ++ record { step = step.Turn number at; turned = Some answer; entry = p } ∷ []) (added_place t.node (entry_of answer at number old new a b t) t.now.entries of_turn.grown);
   }
 
 -- ---- the world
 
-module _ (q : Query) (x : Account) (a b : World) (k : ℕ) (seat : Seat) (was now : Slice) (t : TakesTurn seat.at seat.slice (working was) (working now) a.session b.session) where
+module _ (q : Query) (x : Account) (a b : World) (k : ℕ) (seat : Seat) (was now : Slice) (answer : Answer) (t : TakesTurn answer seat.at seat.slice (working was) (working now) a.session b.session) where
   abbrev entry : Option Entry
-  entry = entry_of seat.at seat.slice (working was) (working now) a.session b.session t
+  entry = entry_of answer seat.at seat.slice (working was) (working now) a.session b.session t
 
   abbrev taken : Taken
-  taken = record { answer = t.answer; entry = entry }
+  taken = record { answer = answer; entry = entry }
 
   abbrev e : Event
-  e = event_of (all_events x) (step.Turn seat.slice seat.at) (Some t.answer) entry
+  e = event_of (all_events x) (step.Turn seat.slice seat.at) (Some answer) entry
 
   abbrev before : List Taken
   before = turns_of seat.slice seat.at x.events
@@ -141,8 +142,8 @@ module _ (q : Query) (x : Account) (a b : World) (k : ℕ) (seat : Seat) (was no
   worker_now : Stands q x a → slice_get a.seats.items k ≡ Some seat → slice_get a.slices.items k ≡ Some was → IsOwn (own_ends t.node.ends seat.slice) (ends_in q seat) (working was)
       → (c : Course) × WorkerStands (worker_in q seat) (ends_in q seat) (working now) (before ++ taken ∷ []) c
   worker_now stands sits has own =
-      worker_on (worker_in q seat) (ends_in q seat) (working was) (working now) t.answer t.node t.now entry before (x.courses seat.slice seat.at)
-      (sat_by (own_ends t.node.ends seat.slice) (ends_in q seat) (working was) (working now) t.answer t.node t.now own t.sat) (of_turn seat.at seat.slice (working was) (working now) a.session b.session t).grown
+      worker_on (worker_in q seat) (ends_in q seat) (working was) (working now) answer t.node t.now entry before (x.courses seat.slice seat.at)
+      (sat_by (own_ends t.node.ends seat.slice) (ends_in q seat) (working was) (working now) answer t.node t.now own t.sat) (of_turn answer seat.at seat.slice (working was) (working now) a.session b.session t).grown
       (log_was stands sits) (stands.workers k seat was sits has)
 
   history_more : (i : ℕ) → history_in i (all_events x ++ e ∷ []) ≡ history_in i (all_events x) ++ entry_at i e
@@ -160,12 +161,12 @@ module _ (q : Query) (x : Account) (a b : World) (k : ℕ) (seat : Seat) (was no
       → log_of (ends_in q other) (history_in (node_of other.at) (all_events x ++ e ∷ [])) ≡ log_of (ends_in q other) (history_in (node_of other.at) (all_events x))
   log_beside stands own other ats apart =
       let differ : seat.slice ≡ other.slice → ⊥ = λ s. apart (ap (λ n. record { slice = n; at = seat.at }) s ∙ ap (λ z. record { slice = other.slice; at = z }) (sym ats)) in
-      let stay = others_stay (own_ends t.node.ends seat.slice) (ends_in q seat) (ends_in q other) (working was) (working now) t.answer t.node t.now own t.sat (of_turn seat.at seat.slice (working was) (working now) a.session b.session t) (slices_apart q seat other ats differ) in
+      let stay = others_stay (own_ends t.node.ends seat.slice) (ends_in q seat) (ends_in q other) (working was) (working now) answer t.node t.now own t.sat (of_turn answer seat.at seat.slice (working was) (working now) a.session b.session t) (slices_apart q seat other ats differ) in
       let here : node_in e ≡ node_of other.at = ap node_of (sym ats) in
       let is : t.node.entries ≡ history_in (node_of other.at) (all_events x) = node_is stands ∙ ap (λ z. history_in (node_of z) (all_events x)) (sym ats) in
       ap (log_of (ends_in q other))
       (history_more (node_of other.at) ∙ ap (λ l. history_in (node_of other.at) (all_events x) ++ l) (entry_here (node_of other.at) e here) ∙ ap (λ h. h ++ entries_in entry) (sym is)
-      ∙ sym (of_turn seat.at seat.slice (working was) (working now) a.session b.session t).grown) ∙ stay ∙ ap (log_of (ends_in q other)) is
+      ∙ sym (of_turn answer seat.at seat.slice (working was) (working now) a.session b.session t).grown) ∙ stay ∙ ap (log_of (ends_in q other)) is
 
   -- another's anywhere
   log_there : Stands q x a → IsOwn (own_ends t.node.ends seat.slice) (ends_in q seat) (working was) → slice_get a.seats.items k ≡ Some seat
@@ -179,13 +180,14 @@ module _ (q : Query) (x : Account) (a b : World) (k : ℕ) (seat : Seat) (was no
             (history_more (node_of other.at) ∙ ap (λ l. history_in (node_of other.at) (all_events x) ++ l) (entry_there (node_of other.at) e w.1) ∙ append-nil (history_in (node_of other.at) (all_events x)))
       ]
 
-  pub turn_goes : Stands q x a → SameQuery a b → slice_get a.seats.items k ≡ Some seat → slice_get a.slices.items k ≡ Some was → b.slices.items ≡ set a.slices.items k now
+  pub turn_goes : Stands q x a → SameQuery a b → b.left ≡ a.left → slice_get a.seats.items k ≡ Some seat → slice_get a.slices.items k ≡ Some was → b.slices.items ≡ set a.slices.items k now
       → IsOwn (own_ends t.node.ends seat.slice) (ends_in q seat) (working was) → Goes q x e b
-  turn_goes stands same sits has slices own =
+  turn_goes stands same left sits has slices own =
       let worker = worker_now stands sits has own in
-      let enters = turn_enters seat.at seat.slice (working was) (working now) a.session b.session t in
+      let enters = turn_enters answer seat.at seat.slice (working was) (working now) a.session b.session t in
       let seats_same : b.seats.items ≡ a.seats.items = ap (λ v. v.items) same.seats in
-      let step_is = turns seat.slice seat.at t.answer entry (of_turn seat.at seat.slice (working was) (working now) a.session b.session t).call in
+      let marks = marks_same a b e left (λ z. refl) in
+      let step_is = turns seat.slice seat.at answer entry (of_turn answer seat.at seat.slice (working was) (working now) a.session b.session t).call in
       let apart_at : (l : ℕ) (other : Seat) → slice_get a.seats.items l ≡ Some other → (k ≡ l → ⊥) → seat ≡ other → ⊥ =
           λ l other there ne is. ne (stands.seats.once k l other (sits ∙ ap Some is) there) in
       record {
@@ -199,19 +201,22 @@ module _ (q : Query) (x : Account) (a b : World) (k : ℕ) (seat : Seat) (was no
             settings = ap (λ p. p.now.settings) same.plan ∙ stands.plan.settings;
             tree = ap (λ p. Rattle.pl_tree.specs.Trees.tree_in p.now.plan) same.plan ∙ stands.plan.tree;
           };
-          session = session_on (running q) (step.Turn seat.slice seat.at) (Some t.answer) entry Stays a.session b.session q.session q.site.segments q.settings enters stands.session;
+          session = session_on (running q) (step.Turn seat.slice seat.at) (Some answer) entry Stays a.session b.session q.session q.site.segments q.settings enters stands.session;
           recalls =
               subst (λ es. Recalls es b.session) (sym (joined x e (courses_with worker.0)))
-              (recalls_on (running q) (step.Turn seat.slice seat.at) (Some t.answer) entry Stays a.session b.session (all_events x) enters stands.recalls step_is);
+              (recalls_on (running q) (step.Turn seat.slice seat.at) (Some answer) entry Stays a.session b.session (all_events x) enters stands.recalls step_is);
           reached = λ i n here.
               elim (get_set a.session.nodes (node_of seat.at) i t.now n (sym (ap (λ l. slice_get l i) t.nodes) ∙ here)) [
                 | inl w ↦
-                    subst (IsReached q i) (sym w.1)
-                    (subst (λ j. IsReached q j t.now) w.0 (reached_on q (node_of seat.at) (all_ends q seat.at) t.node t.now (ap (all_ends q) t.back) (inl enters.goes) (stands.reached (node_of seat.at) t.node t.here)))
-                | inr w ↦ stands.reached i n w.1
+                    subst (IsReached q i (x.events ++ e ∷ [])) (sym w.1)
+                    (subst (λ j. IsReached q j (x.events ++ e ∷ []) t.now) w.0 (stays_reached q (node_of seat.at) x.events e t.node t.now refl refl enters.goes (stands.reached (node_of seat.at) t.node t.here)))
+                | inr w ↦ stays_reached q i x.events e n n refl refl (refl, refl) (stands.reached i n w.1)
               ];
+          order = seats_same ∙ stands.order;
           seats = subst (AreSeats q) (sym seats_same) stands.seats;
           count = ap length slices ∙ length-set a.slices.items k now ∙ stands.count ∙ sym (ap length seats_same);
+          marks = marks.count ∙ stands.marks ∙ sym (ap length t.nodes ∙ length-set a.session.nodes (node_of seat.at) t.now);
+          left = left_on q x a b e stands marks;
           workers = λ l other slice there is.
               let other_is = sym (ap (λ v. slice_get v l) seats_same) ∙ there in
               elim (get_set a.slices.items k l now slice (sym (ap (λ v. slice_get v l) slices) ∙ is)) [
@@ -245,16 +250,19 @@ turned_same : (n : Noding) (es : List Event) (s : Step) (answer : Answer) (entry
 turned_same n es s answer entry is = ap (λ p. record { did = record { step = s; turned = Some answer; entry = p }; entry = entry }) (sym (place_same n es (at_of s) entry is))
 
 -- a turn of a worker that may sit adds its event
-pub turn_adds : OwnAreThePlans → (a b : World) (k : ℕ) (seat : Seat) (was now : Slice) (n : Noding) (t : TakesTurn seat.at seat.slice (working was) (working now) a.session b.session) → SameQuery a b
-    → slice_get a.seats.items k ≡ Some seat → slice_get a.slices.items k ≡ Some was → b.slices.items ≡ set a.slices.items k now
-    → slice_get a.session.nodes (node_of seat.at) ≡ Some n → MaySit true a.query n (working was).stage → Steps (step.Turn seat.slice seat.at) true a b
-turn_adds law a b k seat was now n t same sits has slices here may = (
-  turn_event seat.at seat.slice (working was) (working now) a.session b.session t,
+pub turn_adds : OwnAreThePlans → (a b : World) (k : ℕ) (seat : Seat) (was now : Slice) (n : Noding) (answer : Answer) (t : TakesTurn answer seat.at seat.slice (working was) (working now) a.session b.session) → SameQuery a b
+    → b.left ≡ a.left → slice_get a.seats.items k ≡ Some seat → slice_get a.slices.items k ≡ Some was → b.slices.items ≡ set a.slices.items k now
+    → slice_get a.session.nodes (node_of seat.at) ≡ Some n → MaySit true a.query n (marked (slice_get a.left.items (node_of seat.at))) (working was).stage → TurnsAt k (Some answer) a b
+turn_adds law a b k seat was now n answer t same left sits has slices here may = (
+  seat,
+  λ q x stands. ap (λ l. slice_get l k) (sym stands.order) ∙ sits,
+  turn_event answer seat.at seat.slice (working was) (working now) a.session b.session t,
+  refl,
   refl,
   λ q x stands.
       let node_same : n ≡ t.node = same_some n t.node (sym here ∙ t.here) in
-      let own = own_is law q x a k seat t.node (working was).stage stands sits t.here (subst (λ m. MaySit true a.query m (working was).stage) node_same may) in
+      let own = own_is law q x a k seat t.node (working was).stage stands sits t.here (subst (λ m. MaySit true a.query m (marked (slice_get a.left.items (node_of seat.at))) (working was).stage) node_same may) in
       subst (λ e. Goes q x e b)
-      (turned_same t.node (all_events x) (step.Turn seat.slice seat.at) t.answer (entry_of seat.at seat.slice (working was) (working now) a.session b.session t) (stands.recalls.histories (node_of seat.at) t.node t.here))
-      (turn_goes q x a b k seat was now t stands same sits has slices own),
+      (turned_same t.node (all_events x) (step.Turn seat.slice seat.at) answer (entry_of answer seat.at seat.slice (working was) (working now) a.session b.session t) (stands.recalls.histories (node_of seat.at) t.node t.here))
+      (turn_goes q x a b k seat was now answer t stands same left sits has slices own),
 )

@@ -1,5 +1,5 @@
 -- A world stands for one event more that is no turn.
-use Rattle.std.proofs.Common.{◌≡◌, ◌⊎◌, ℕ, ◌+◌, ◌<◌, ◌==◌, ℤ, List, [], ◌∷◌, ◌++◌, length, set, Bool, true, false, cond, Option, Some, None, refl, ap, sym, ◌∙◌, subst, arith, inl, inr, append_assoc, append-nil, slice_get}
+use Rattle.std.proofs.Common.{◌≡◌, ◌⊎◌, ℕ, ◌+◌, ◌<◌, ◌==◌, ◌&&◌, ℤ, List, [], ◌∷◌, ◌++◌, length, set, Bool, true, false, cond, Option, Some, None, refl, ap, sym, ◌∙◌, subst, arith, inl, inr, append_assoc, append-nil, slice_get, length-set}
 use Rattle.std.proofs.lemmas.Bool.Decides.{eqb_tells}
 use Rattle.ic_base.specs.declared.keys.ConnEnd.{ConnEnd}
 use Rattle.ic_law.specs.declared.history.Entry.{Entry}
@@ -18,14 +18,15 @@ use Rattle.gd_world.specs.declared.step.Step.{Step}
 use Rattle.gd_world.specs.declared.seat.Seat.{Seat}
 use Rattle.gd_world.specs.declared.world.World.{World}
 use Rattle.gd_world.specs.Doings.{at_of}
-use Rattle.gd_world.specs.Events.{Event, Running, IsStep, node_in, segment_at, entries_in, entry_at, history_in, event_of, asked}
+use Rattle.gd_world.specs.Events.{Event, Running, IsStep, node_in, segment_at, entries_in, entry_at, history_in, event_of, asked, begun_with, left_with}
 use Rattle.gd_world.specs.Sessions.{Sessional, Recalls, IsSessionOf}
 use Rattle.gd_world.specs.Turns.{Taken, is_of, taken_with, taken_in, turns_of, logged_by}
 use Rattle.gd_world.specs.Workers.{AreSeats, WorkerStands, worker_in, ends_in}
-use Rattle.gd_world.specs.Worlds.{Account, all_events, with_event, all_ends, running, IsReached, HasEnds, Stands, StandsAt, LogsItsTurns}
+use Rattle.gd_world.specs.Worlds.{Account, all_events, with_event, running, IsReached, Stands, StandsAt, LogsItsTurns}
 use Rattle.gd_world.specs.Steps.{Goes, Steps}
-use Rattle.gd_world.specs.Inside.{Enters, EntersAsked, Moves, place_in}
+use Rattle.gd_world.specs.Inside.{Enters, EntersAsked, place_in}
 use Rattle.gd_world.proofs.Places.{get_set}
+use Rattle.gd_world.proofs.Marking.{MarksOn, node_segment, asks_elsewhere, stays_reached, left_on}
 use Rattle.gd_world.proofs.Recalling.{entry_here, entry_there, place_same, recalls_on, session_on}
 
 -- ---- what a driver's call leaves
@@ -46,24 +47,7 @@ logs_none ends (ask.Leave q) reply d = refl
 pub log_append : (ends : List ConnEnd) (h more : List Entry) → log_of ends (h ++ more) ≡ log_of ends h ++ log_of ends more
 log_append ends h more = Rattle.ic_law.proofs.Lists.flat_map-append (logs ends) h more
 
--- what a node's query is after a call
-pub reached_on : (q : Query) (k : ℕ) (ends : List ConnEnd) (a b : Noding) → ends ≡ all_ends q (segment_at k) → Moves q.number ends a b → IsReached q k a → IsReached q k b
-reached_on q k ends a b are moves was =
-    elim moves [
-      | inl w ↦ elim was [
-        | inl u ↦ inl (subst (λ n. n < q.number) (sym w.0) u)
-        | inr u ↦ inr (
-          w.0 ∙ u.0,
-          elim w.1 [
-            | inl same ↦ elim u.1 [ inl all ↦ inl (same ∙ all) | inr none ↦ inr (same ∙ none) ]
-            | inr none ↦ inr none
-          ],
-        )
-      ]
-      | inr w ↦ inr (w.0, inl (w.1 ∙ are))
-    ]
-
--- only the session of a world changed
+-- the world runs the same query with the same seats
 pub record SameQuery (a b : World) : Type 0 where
   pub plan : b.plan ≡ a.plan
   pub query : b.query ≡ a.query
@@ -93,9 +77,10 @@ module _ (q : Query) (x : Account) (a b : World) (s : Step) (asking : HubAsk) (r
       ap (log_of ends) (flat_map-push (entry_at k) (all_events x) e) ∙ log_append ends (history_in k (all_events x)) (entry_at k e)
       ∙ ap (λ l. log_of ends (history_in k (all_events x)) ++ l) (log_here k ends driver) ∙ append-nil (log_of ends (history_in k (all_events x)))
 
-  pub drives : Stands q x a → SameQuery a b → b.slices ≡ a.slices → Enters (Moves q.number (all_ends q (at_of s))) (at_of s) s None (asked asking reply) a.session b.session
+  pub drives : Stands q x a → SameQuery a b → b.slices ≡ a.slices → (P : Noding → Noding → Type 0) (enters : Enters P (at_of s) s None (asked asking reply) a.session b.session) → MarksOn a b s (asked asking reply)
+      → (IsReached q (node_of (at_of s)) x.events enters.node → IsReached q (node_of (at_of s)) (x.events ++ e ∷ []) enters.now)
       → IsDrivers asking → ((slice : ℕ) (at : ℤ) → taken_in slice at e ≡ []) → IsStep (running q) (all_events x) e → Goes q x e b
-  drives was same slices enters driver none step =
+  drives was same slices P enters marks reach driver none step =
       let seats_same : b.seats.items ≡ a.seats.items = ap (λ v. v.items) same.seats in
       let slices_same : b.slices.items ≡ a.slices.items = ap (λ v. v.items) slices in
       record {
@@ -109,17 +94,18 @@ module _ (q : Query) (x : Account) (a b : World) (s : Step) (asking : HubAsk) (r
             settings = ap (λ p. p.now.settings) same.plan ∙ was.plan.settings;
             tree = ap (λ p. Rattle.pl_tree.specs.Trees.tree_in p.now.plan) same.plan ∙ was.plan.tree;
           };
-          session = session_on (running q) s None (asked asking reply) (Moves q.number (all_ends q (at_of s))) a.session b.session q.session q.site.segments q.settings enters was.session;
-          recalls =
-              subst (λ es. Recalls es b.session) (sym (joined x e x.courses))
-              (recalls_on (running q) s None (asked asking reply) (Moves q.number (all_ends q (at_of s))) a.session b.session (all_events x) enters was.recalls step);
+          session = session_on (running q) s None (asked asking reply) P a.session b.session q.session q.site.segments q.settings enters was.session;
+          recalls = subst (λ es. Recalls es b.session) (sym (joined x e x.courses)) (recalls_on (running q) s None (asked asking reply) P a.session b.session (all_events x) enters was.recalls step);
           reached = λ k n here.
               elim (get_set a.session.nodes (node_of (at_of s)) k enters.now n (sym (ap (λ l. slice_get l k) enters.nodes) ∙ here)) [
                 | inl w ↦
-                    subst (IsReached q k) (sym w.1)
-                    (subst (λ i. IsReached q i enters.now) w.0 (reached_on q (node_of (at_of s)) (all_ends q (at_of s)) enters.node enters.now (ap (all_ends q) enters.back) enters.goes (was.reached (node_of (at_of s)) enters.node enters.here)))
-                | inr w ↦ was.reached k n w.1
+                    subst (IsReached q k (x.events ++ e ∷ [])) (sym w.1)
+                    (subst (λ i. IsReached q i (x.events ++ e ∷ []) enters.now) w.0 (reach (was.reached (node_of (at_of s)) enters.node enters.here)))
+                | inr w ↦
+                    let silent = asks_elsewhere (segment_at k) s (λ z. w.0 (ap node_of z ∙ node_segment k)) in
+                    stays_reached q k x.events e n n (ap (λ c. c && begun_with (asked asking reply)) silent.0) (ap (λ c. c && left_with (asked asking reply)) silent.1) (refl, refl) (was.reached k n w.1)
               ];
+          order = seats_same ∙ was.order;
           seats = subst (AreSeats q) (sym seats_same) was.seats;
           count = ap length slices_same ∙ was.count ∙ sym (ap length seats_same);
           workers = λ k seat slice sits has.
@@ -128,6 +114,8 @@ module _ (q : Query) (x : Account) (a b : World) (s : Step) (asking : HubAsk) (r
           logs = λ k seat sits.
               ap (λ es. log_of (ends_in q seat) (history_in (node_of seat.at) es)) (joined x e x.courses) ∙ log_same (node_of seat.at) (ends_in q seat) driver
               ∙ was.logs k seat (sym (ap (λ l. slice_get l k) seats_same) ∙ sits) ∙ ap (logged_by (ends_in q seat)) (turns_same none seat.slice seat.at);
+          marks = marks.count ∙ was.marks ∙ sym (ap length enters.nodes ∙ length-set a.session.nodes (node_of (at_of s)) enters.now);
+          left = left_on q x a b e was marks;
         };
       }
 
@@ -137,30 +125,18 @@ event_same : (n : Noding) (es : List Event) (s : Step) (entry : Option Entry) �
     → event_of es s None entry ≡ record { did = record { step = s; turned = None; entry = place_in n entry }; entry = entry }
 event_same n es s entry is = ap (λ p. record { did = record { step = s; turned = None; entry = p }; entry = entry }) (sym (place_same n es (at_of s) entry is))
 
-pub enters_so : (P Q : Noding → Noding → Type 0) (at : ℤ) (s : Step) (entry : Option Entry) (a b : Sessional) → ((n m : Noding) → P n m → Q n m) → Enters P at s None entry a b → Enters Q at s None entry a b
-enters_so P Q at s entry a b so e = record {
-  node = e.node;
-  now = e.now;
-  back = e.back;
-  here = e.here;
-  place = e.place;
-  grown = e.grown;
-  goes = so e.node e.now e.goes;
-  nodes = e.nodes;
-  past = e.past;
-}
-
--- a step that asks a hub adds its event, if it is one of the query's and goes as it may
-pub asks_add : (P : Noding → Noding → Type 0) (s : Step) (asking : HubAsk) (a b : World) → SameQuery a b → b.slices ≡ a.slices → EntersAsked P (at_of s) s asking a.session b.session → IsDrivers asking
-    → ((slice : ℕ) (at : ℤ) → is_of slice at s ≡ false)
-    → ((q : Query) (x : Account) → Stands q x a → (n m : Noding) → P n m → Moves q.number (all_ends q (at_of s)) n m)
-    → ((q : Query) (x : Account) (reply : HubReply) → Stands q x a → IsStep (running q) (all_events x) (event_of (all_events x) s None (asked asking reply))) → Steps s true a b
-asks_add P s asking a b same slices t driver none so step = (
+-- a step that asks a hub adds its event, if it is one of the query's, and the node and the marks go as it may
+pub asks_add : (P : HubReply → Noding → Noding → Type 0) (s : Step) (asking : HubAsk) (a b : World) → SameQuery a b → b.slices ≡ a.slices → (t : EntersAsked P (at_of s) s asking a.session b.session) → MarksOn a b s (asked asking t.reply)
+    → IsDrivers asking → ((slice : ℕ) (at : ℤ) → is_of slice at s ≡ false)
+    → ((q : Query) (x : Account) → Stands q x a → IsReached q (node_of (at_of s)) x.events t.enters.node
+        → IsReached q (node_of (at_of s)) (x.events ++ event_of (all_events x) s None (asked asking t.reply) ∷ []) t.enters.now)
+    → ((q : Query) (x : Account) → Stands q x a → IsStep (running q) (all_events x) (event_of (all_events x) s None (asked asking t.reply))) → Steps s true a b
+asks_add P s asking a b same slices t marks driver none reach step = (
   record { did = record { step = s; turned = None; entry = place_in t.enters.node (asked asking t.reply) }; entry = asked asking t.reply },
   refl,
   λ q x stands.
       let is = event_same t.enters.node (all_events x) s (asked asking t.reply) (stands.recalls.histories (node_of (at_of s)) t.enters.node t.enters.here) in
       subst (λ e. Goes q x e b) is
-      (drives q x a b s asking t.reply stands same slices (enters_so P (Moves q.number (all_ends q (at_of s))) (at_of s) s (asked asking t.reply) a.session b.session (so q x stands) t.enters) driver
-      (λ slice at. ap (λ b. cond b (taken_with None (asked asking t.reply)) []) (none slice at)) (step q x t.reply stands)),
+      (drives q x a b s asking t.reply stands same slices (P t.reply) t.enters marks (reach q x stands) driver
+      (λ slice at. ap (λ b. cond b (taken_with None (asked asking t.reply)) []) (none slice at)) (step q x stands)),
 )

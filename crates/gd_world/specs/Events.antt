@@ -1,7 +1,8 @@
 -- Events: the steps of a session, each with the entry that came of it, in one order. Histories and what was sent are read from
 -- them.
-use Rattle.std.specs.Prelude.{◌≡◌, ℕ, zero, suc, ◌==◌, ℤ, pos, negsuc, List, [], ◌∷◌, ◌++◌, length, if◌then◌else◌, Option, Some, None, slice_get}
-use Rattle.std.specs.List.{flat_map}
+use Rattle.std.specs.Prelude.{◌≡◌, ℕ, zero, suc, ◌==◌, ℤ, pos, negsuc, Bool, false, ◌&&◌, List, [], ◌∷◌, ◌++◌, length, if◌then◌else◌, Option, Some, None, slice_get}
+use Rattle.std.specs.List.{flat_map, list_any}
+use Rattle.std.specs.Ordering.{int_eq}
 use Rattle.ic_base.specs.declared.datagram.Datagram.{Datagram}
 use Rattle.ic_base.specs.declared.keys.ConnEnd.{ConnEnd}
 use Rattle.ic_law.specs.declared.history.Entry.{Entry}
@@ -9,7 +10,7 @@ use Rattle.ic_law.specs.declared.history.HubAsk.{HubAsk}
 use Rattle.ic_law.specs.declared.history.HubAsk.TheVariants as ask
 use Rattle.ic_law.specs.declared.history.HubReply.{HubReply}
 use Rattle.ic_law.specs.History.{emits, arrives}
-use Rattle.ic_law.specs.Queries.{leaves}
+use Rattle.ic_law.specs.Queries.{leaves, was_begun, was_left}
 use Rattle.ic_law.specs.Streams.{node_of}
 use Rattle.ic_port.specs.Calls.{begins}
 use Rattle.gd_world.specs.declared.step.Step.{Step}
@@ -52,6 +53,46 @@ emitted_in e = flat_map emits (entries_in e.entry)
 -- all datagrams that were emitted, in order
 abbrev pub sent_in : List Event → List Datagram
 sent_in es = flat_map emitted_in es
+
+-- ---- who has begun, and who has left
+
+abbrev pub asks_to_begin : ℤ → Step → Bool
+asks_to_begin at (step.Begin a) = int_eq a at
+asks_to_begin at (step.Turn slice a) = false
+asks_to_begin at (step.Deliver number a) = false
+asks_to_begin at (step.Tick a) = false
+asks_to_begin at (step.Leave a) = false
+
+abbrev pub begun_with : Option Entry → Bool
+begun_with None = false
+begun_with (Some e) = was_begun e.reply
+
+-- with this event the node of a segment began its query
+abbrev pub begun_in : ℤ → Event → Bool
+begun_in at e = asks_to_begin at e.did.step && begun_with e.entry
+
+-- the node of a segment has begun the query of these events
+abbrev pub has_begun : ℤ → List Event → Bool
+has_begun at es = list_any (begun_in at) es
+
+abbrev pub asks_to_leave : ℤ → Step → Bool
+asks_to_leave at (step.Begin a) = false
+asks_to_leave at (step.Turn slice a) = false
+asks_to_leave at (step.Deliver number a) = false
+asks_to_leave at (step.Tick a) = false
+asks_to_leave at (step.Leave a) = int_eq a at
+
+abbrev pub left_with : Option Entry → Bool
+left_with None = false
+left_with (Some e) = was_left e.reply
+
+-- with this event it left its query
+abbrev pub left_in : ℤ → Event → Bool
+left_in at e = asks_to_leave at e.did.step && left_with e.entry
+
+-- it has left the query of these events
+abbrev pub has_left : ℤ → List Event → Bool
+has_left at es = list_any (left_in at) es
 
 -- ---- an event behind others
 

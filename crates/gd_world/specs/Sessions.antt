@@ -1,5 +1,5 @@
 -- A session's nodes with the past that made them.
-use Rattle.std.specs.Prelude.{◌≡◌, ℕ, ◌+◌, ◌<◌, ℤ, List, [], length, map, Option, Some, None, Contains, slice_get}
+use Rattle.std.specs.Prelude.{◌≡◌, ℕ, ◌+◌, ◌-◌, ◌<◌, ℤ, List, [], length, map, Option, Some, None, Contains, slice_get}
 use Rattle.std.specs.List.{flat_map}
 use Rattle.ic_base.specs.declared.datagram.Datagram.{Datagram}
 use Rattle.ic_base.specs.declared.settings.Settings.{Settings}
@@ -22,16 +22,29 @@ entries_of n = n.entries
 abbrev pub histories_of : Sessional → List (List Entry)
 histories_of s = map entries_of s.nodes
 
--- ---- what was sent
+-- ---- the entry of a step
 
-abbrev pub emitted_at : Option Noding → Option ℕ → List Datagram
-emitted_at None place = []
-emitted_at (Some n) None = []
-emitted_at (Some n) (Some place) = emitted_with (slice_get n.entries place)
+abbrev pub entry_of : Option Noding → Option ℕ → Option Entry
+entry_of None place = None
+entry_of (Some n) None = None
+entry_of (Some n) (Some place) = slice_get n.entries place
+
+abbrev pub entry_by : List Noding → Doing → Option Entry
+entry_by nodes did = entry_of (slice_get nodes (node_of (at_of did.step))) did.entry
+
+abbrev pub entry_with : List Noding → Option Doing → Option Entry
+entry_with nodes None = None
+entry_with nodes (Some did) = entry_by nodes did
+
+-- that of the last step
+abbrev pub last_entry : Sessional → Option Entry
+last_entry s = entry_with s.nodes (slice_get s.past (length s.past - 1))
+
+-- ---- what was sent
 
 -- what was emitted with the entry of a step
 abbrev pub emitted_by : List Noding → Doing → List Datagram
-emitted_by nodes did = emitted_at (slice_get nodes (node_of (at_of did.step))) did.entry
+emitted_by nodes did = emitted_with (entry_by nodes did)
 
 -- all datagrams, in the order of the steps: the number of each is its place here
 abbrev pub sent_by : Sessional → List Datagram

@@ -58,6 +58,18 @@ last_answer [] = None
 last_answer (t ∷ []) = Some t.answer
 last_answer (t ∷ u ∷ ts) = last_answer (u ∷ ts)
 
+-- it was answered that the slice is done
+abbrev pub says_done : Option Answer → Bool
+says_done None = false
+says_done (Some (Ok Moved)) = false
+says_done (Some (Ok (Waiting refusal))) = false
+says_done (Some (Ok Done)) = true
+says_done (Some (Err refusal)) = false
+
+-- the worker of a slice at a segment is done: its last turn was answered so
+abbrev pub is_done : ℕ → ℤ → List Event → Bool
+is_done slice at es = says_done (last_answer (turns_of slice at es))
+
 -- a slice goes on, is done or is refused as its last turn was answered
 abbrev pub StandsBy : Stage → Option Answer → Type 0
 StandsBy stage None = is_going stage ≡ true

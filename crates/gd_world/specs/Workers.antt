@@ -1,10 +1,12 @@
 -- A worker of a query's plan in a world: its slice stands for the turns that it took.
-use Rattle.std.specs.Prelude.{◌≡◌, ℕ, ◌+◌, ◌<◌, ℤ, true, false, List, [], length, Some, Contains, slice_get}
+use Rattle.std.specs.Prelude.{◌≡◌, ℕ, zero, suc, ◌+◌, ◌<◌, ℤ, List, [], ◌++◌, length, map, Some, Contains, slice_get}
 use Rattle.std.specs.List.{AllByRecursion}
 use Rattle.ic_base.specs.declared.keys.ConnEnd.{ConnEnd}
 use Rattle.ic_base.specs.declared.port.PortEntry.{PortEntry}
 use Rattle.ic_law.specs.Streams.{node_of}
-use Rattle.pl_plan.specs.Motions.{gang_of}
+use Rattle.pl_tree.specs.declared.schema.Schema.{Schema}
+use Rattle.pl_tree.specs.Trees.{Tree}
+use Rattle.pl_plan.specs.Motions.{gang_of, slices_in}
 use Rattle.pl_runs.specs.Steps.{calls_of}
 use Rattle.pl_runs.specs.Slices.{Worker}
 use Rattle.pl_runs.specs.Runs.{Course}
@@ -14,13 +16,27 @@ use Rattle.ex_tree.specs.Parts.{Part}
 use Rattle.ex_slice.specs.declared.stage.Stage.{Stage}
 use Rattle.ex_slice.specs.declared.stage.Stage.TheVariants.{Giving, Ending, Halting, Done, Refused}
 use Rattle.ex_slice.specs.declared.stage.SliceNo.TheVariants as why
-use Rattle.ex_slice.specs.Working.{Working, Works, Listening, Reaching, fresh_course}
-use Rattle.ex_slice.specs.Turning.{is_going}
+use Rattle.ex_slice.specs.Working.{Working, Works, Listening, Reaching}
 use Rattle.gd_world.specs.declared.seat.Seat.{Seat}
 use Rattle.gd_world.specs.Events.{segment_at}
 use Rattle.gd_world.specs.Turns.{Taken, logged_by, last_answer, StandsBy, AnswersTurn}
 
 -- ---- seats
+
+abbrev pub seat_of : ℕ → ℤ → Seat
+seat_of slice at = record { slice = slice; at = at }
+
+-- the seats of the slices below a number, the greatest slice first, and of one slice in the order of its gang
+abbrev pub seats_below : List Schema → ℕ → Tree → ℕ → List Seat
+seats_below s segments tree zero = []
+seats_below s segments tree (suc n) = map (seat_of n) (gang_of s segments tree n) ++ seats_below s segments tree n
+
+-- the seats of all workers of a plan
+abbrev pub seats_of : List Schema → ℕ → Tree → List Seat
+seats_of s segments tree = seats_below s segments tree (slices_in tree)
+
+abbrev pub seats_in : Query → List Seat
+seats_in q = seats_of q.site.schemas q.site.segments q.tree
 
 -- the worker of the plan that has this seat
 abbrev pub worker_in : Query → Seat → Worker
@@ -62,11 +78,3 @@ pub record WorkerStands (w : Worker) (ends : List ConnEnd) (x : Working) (ts : L
   pub answers : AllByRecursion (AnswersTurn ends) ts
   pub reaches : Reaching ends x.way
   pub does : Keeps w ends x (logged_by ends ts) c
-
--- a slice that is the worker's before its first turn
-pub record IsFresh (w : Worker) (ends : List ConnEnd) (x : Working) : Type 0 where
-  pub going : is_going x.stage ≡ true
-  pub reaches : Reaching ends x.way
-  pub part : Part
-  pub works : Works w part x fresh_course
-  pub listens : Listening ends part

@@ -1,10 +1,11 @@
 -- What a world stands for: whatever query it may be, and whatever was done before it and in it.
-use Rattle.std.specs.Prelude.{◌≡◌, ◌⊎◌, ℕ, ◌<◌, ℤ, List, [], ◌∷◌, ◌++◌, length, Some, slice_get}
+use Rattle.std.specs.Prelude.{◌≡◌, ℕ, ◌<◌, ◌≤◌, ℤ, Bool, true, false, List, [], ◌∷◌, ◌++◌, length, Some, slice_get}
 use Rattle.ic_base.specs.declared.keys.ConnEnd.{ConnEnd}
 use Rattle.ic_law.specs.Streams.{node_of}
 use Rattle.pl_tree.specs.Trees.{tree_in}
 use Rattle.pl_plan.specs.declared.sound.Judged.{Judged}
 use Rattle.pl_plan.specs.Ends.{ends_in as plan_ends}
+use Rattle.pl_ops.specs.declared.loaded.Spread.{Spread}
 use Rattle.pl_runs.specs.Logs.{log_of}
 use Rattle.pl_runs.specs.Distributed.{Query, Courses}
 use Rattle.ic_port.specs.Noding.{Noding}
@@ -13,10 +14,10 @@ use Rattle.ex_slice.specs.Slicing.{working}
 use Rattle.ex_slice.specs.Working.{fresh_course}
 use Rattle.gd_world.specs.declared.seat.Seat.{Seat}
 use Rattle.gd_world.specs.declared.world.World.{World}
-use Rattle.gd_world.specs.Events.{Event, Running, history_in, segment_at}
+use Rattle.gd_world.specs.Events.{Event, Running, history_in, segment_at, has_begun, has_left}
 use Rattle.gd_world.specs.Sessions.{Sessional, Recalls, IsSessionOf}
 use Rattle.gd_world.specs.Turns.{turns_of, logged_by}
-use Rattle.gd_world.specs.Workers.{AreSeats, WorkerStands, worker_in, ends_in, IsFresh}
+use Rattle.gd_world.specs.Workers.{AreSeats, WorkerStands, worker_in, ends_in, seats_in}
 
 -- ---- the query
 
@@ -35,13 +36,17 @@ pub record IsOfPlan (q : Query) (plan : Judged) (number : ℕ) : Type 0 where
   pub settings : plan.settings ≡ q.settings
   pub tree : tree_in plan.plan ≡ q.tree
 
--- the ends are those of the query at this position, or none, since the node has left it
-abbrev pub HasEnds : Query → ℕ → List ConnEnd → Type 0
-HasEnds q k ends = (ends ≡ all_ends q (segment_at k)) ⊎ (ends ≡ [])
+-- Before it has begun the query, a node's last query is an earlier one. Then it is this one, with the ends that the node's segment has
+-- of it, or with none once the node has left it.
+abbrev pub ReachedBy : Query → ℕ → (begun gone : Bool) → Noding → Type 0
+ReachedBy q k true true n = (n.query ≡ q.number) × (n.ends ≡ [])
+ReachedBy q k true false n = (n.query ≡ q.number) × (n.ends ≡ all_ends q (segment_at k))
+ReachedBy q k false true n = ⊥
+ReachedBy q k false false n = n.query < q.number
 
--- the node's last query is an earlier one, or this one
-abbrev pub IsReached : Query → ℕ → Noding → Type 0
-IsReached q k n = (n.query < q.number) ⊎ ((n.query ≡ q.number) × HasEnds q k n.ends)
+-- the node at this position after these events of the query
+abbrev pub IsReached : Query → ℕ → List Event → Noding → Type 0
+IsReached q k es n = ReachedBy q k (has_begun (segment_at k) es) (has_left (segment_at k) es) n
 
 -- ---- what was done
 
@@ -70,16 +75,19 @@ abbrev pub LogsItsTurns : Query → Account → Seat → Type 0
 LogsItsTurns q x seat = log_of (ends_in q seat) (history_in (node_of seat.at) (all_events x)) ≡ logged_by (ends_in q seat) (turns_of seat.slice seat.at x.events)
 
 -- The world runs the query over the session's nodes, whose past and histories are what these events tell, with a worker at each
--- seat of the plan. Each worker stands for its turns, and nothing else is in its log.
+-- seat of the plan. Each worker stands for its turns, and nothing else is in its log. The nodes that have left are marked.
 pub record Stands (q : Query) (x : Account) (w : World) : Type 0 where
   pub plan : IsOfPlan q w.plan.now w.query
   pub session : IsSessionOf q.session q.site.segments q.settings w.session
   pub recalls : Recalls (all_events x) w.session
-  pub reached : (k : ℕ) (n : Noding) → slice_get w.session.nodes k ≡ Some n → IsReached q k n
+  pub reached : (k : ℕ) (n : Noding) → slice_get w.session.nodes k ≡ Some n → IsReached q k x.events n
+  pub order : w.seats.items ≡ seats_in q
   pub seats : AreSeats q w.seats.items
   pub count : length w.slices.items ≡ length w.seats.items
   pub workers : (k : ℕ) (seat : Seat) (slice : Slice) → slice_get w.seats.items k ≡ Some seat → slice_get w.slices.items k ≡ Some slice → StandsAt q x seat slice
   pub logs : (k : ℕ) (seat : Seat) → slice_get w.seats.items k ≡ Some seat → LogsItsTurns q x seat
+  pub marks : length w.left.items ≡ length w.session.nodes
+  pub left : (k : ℕ) (gone : Bool) → slice_get w.left.items k ≡ Some gone → gone ≡ has_left (segment_at k) x.events
 
 -- it stands for something
 pub record IsWorld (w : World) : Type 0 where
@@ -89,15 +97,21 @@ pub record IsWorld (w : World) : Type 0 where
 
 -- ---- before its first step
 
--- A session in which these events were done, and none of this query, with a fresh slice at each seat of the plan.
-pub record Starts (q : Query) (es : List Event) (plan : Judged) (number : ℕ) (session : Sessional) (seats : List Seat) (slices : List Slice) : Type 0 where
+-- The query has this plan, these tables and this number. These events were done in the session, and none of this query.
+pub record Starts (q : Query) (es : List Event) (plan : Judged) (tables : List Spread) (number : ℕ) (session : Sessional) : Type 0 where
   pub plan_is : IsOfPlan q plan number
+  pub tables_are : tables ≡ q.site.tables
   pub session_is : IsSessionOf q.session q.site.segments q.settings session
   pub recalls : Recalls es session
   pub later : (k : ℕ) (n : Noding) → slice_get session.nodes k ≡ Some n → n.query < q.number
-  pub seats_are : AreSeats q seats
-  pub count : length slices ≡ length seats
-  pub fresh : (k : ℕ) (seat : Seat) (slice : Slice) → slice_get seats k ≡ Some seat → slice_get slices k ≡ Some slice → IsFresh (worker_in q seat) (ends_in q seat) (working slice)
 
 abbrev pub begun_with : List Event → Account
 begun_with es = record { earlier = es; events = []; courses = λ slice at. fresh_course }
+
+-- ---- behind its last step
+
+-- A session in which all these events were done, and no later query than this one: the next query may begin.
+pub record Closes (q : Query) (x : Account) (session : Sessional) : Type 0 where
+  pub session_is : IsSessionOf q.session q.site.segments q.settings session
+  pub recalls : Recalls (all_events x) session
+  pub upto : (k : ℕ) (n : Noding) → slice_get session.nodes k ≡ Some n → n.query ≤ q.number

@@ -1,5 +1,5 @@
 // What one node does in a step.
-ghost use Rattle.std.specs.Prelude.{◌≡◌, ◌<◌, true, OnOk, OnErr};
+ghost use Rattle.std.specs.Prelude.{◌≡◌, ◌<◌, true, IfOk, OnOk, OnErr};
 ghost use Rattle.ic_law.specs.declared.history.HubAsk.TheVariants as ask;
 ghost use Rattle.ic_law.specs.Asking.{AreEnds};
 ghost use Rattle.ic_port.specs.Noding.{place_of};
@@ -8,7 +8,7 @@ ghost use Rattle.ex_slice.specs.Working.{CanTurn};
 ghost use Rattle.ex_slice.specs.Turning.{is_going};
 ghost use Rattle.pl_runs.specs.Logs.{log_of};
 ghost use Rattle.ex_slice.specs.Slicing.{working};
-ghost use Rattle.gd_world.specs.Inside.{Stays, Moves, Does, Sat};
+ghost use Rattle.gd_world.specs.Inside.{StaysBy, Begins, Does, DoesLeave, Sat};
 
 use ex_slice::{Slice, SliceNo, Turned};
 use ic_base::{BeginNo, ConnEnd, Datagram};
@@ -26,7 +26,7 @@ pub(crate) fn begin(
 ) -> Result<(), AllocError>
     requires ends { AreEnds (place_of node.old) query ends.items }
     requires later { node.old.query < query }
-    ensures ok { OnOk result (Does (Moves query ends.items) (ask.Begin query ends.items) node.old node.new) }
+    ensures ok { OnOk result (Does (Begins query ends.items) (ask.Begin query ends.items) node.old node.new) }
     ensures err { OnErr result (node.new ≡ node.old) }
 {
     match node.begin(alloc, query, ends) {
@@ -43,7 +43,7 @@ pub(crate) fn deliver(
     node: &mut Node,
     datagram: Datagram,
 ) -> Result<(), AllocError>
-    ensures ok { OnOk result (Does Stays (ask.Arrive datagram) node.old node.new) }
+    ensures ok { OnOk result (Does StaysBy (ask.Arrive datagram) node.old node.new) }
     ensures err { OnErr result (node.new ≡ node.old) }
 {
     node.arrive(alloc, datagram)
@@ -51,7 +51,7 @@ pub(crate) fn deliver(
 
 /// The clock goes on, or the hub refuses that.
 pub(crate) fn tick(alloc: Global, node: &mut Node) -> Result<(), AllocError>
-    ensures ok { OnOk result (Does Stays ask.Tick node.old node.new) }
+    ensures ok { OnOk result (Does StaysBy ask.Tick node.old node.new) }
     ensures err { OnErr result (node.new ≡ node.old) }
 {
     match node.tick(alloc) {
@@ -61,16 +61,12 @@ pub(crate) fn tick(alloc: Global, node: &mut Node) -> Result<(), AllocError>
     }
 }
 
-/// Leaves the last query, or the hub refuses that.
-pub(crate) fn leave(node: &mut Node) -> Result<(), AllocError>
-    ensures ok { OnOk result (Does Stays (ask.Leave node.old.query) node.old node.new) }
+/// Leaves the last query, or the hub refuses that. Tells whether the node has left.
+pub(crate) fn leave(node: &mut Node) -> Result<bool, AllocError>
+    ensures ok { IfOk result (λ gone. DoesLeave gone node.old.query node.old node.new) }
     ensures err { OnErr result (node.new ≡ node.old) }
 {
-    match node.leave() {
-        Ok(true) => Ok(()),
-        Ok(false) => Ok(()),
-        Err(no) => Err(no),
-    }
+    node.leave()
 }
 
 /// A turn of the slice of this number at its desk.

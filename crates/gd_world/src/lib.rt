@@ -16,6 +16,7 @@ mod laws;
 mod past;
 mod playing;
 mod seat;
+mod seating;
 mod session;
 mod step;
 mod steps;

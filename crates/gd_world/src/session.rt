@@ -1,20 +1,21 @@
 // The nodes of a session, and its past.
-ghost use Rattle.std.specs.Prelude.{◌≡◌, ◌<◌, ◌≤◌, ◌+◌, ◌≤ℤ◌, ℕ, List, [], length, slice_get, slice_set, None, Some, pos, negsuc, IfOk, OnOk, OnErr};
+ghost use Rattle.std.specs.Prelude.{◌≡◌, ◌<◌, ◌≤◌, ◌+◌, ◌≤ℤ◌, ℕ, List, [], length, slice_get, slice_set, None, Some, pos, negsuc, MatchOption, IfOk, OnOk, OnErr};
 ghost use Rattle.ic_base.specs.Settings.{AreChecked};
 ghost use Rattle.ic_law.specs.declared.history.HubAsk.TheVariants as ask;
 ghost use Rattle.ic_law.specs.Streams.{node_of};
-ghost use Rattle.ic_port.specs.Noding.{fresh};
+ghost use Rattle.ic_port.specs.Noding.{Noding, fresh};
 ghost use Rattle.gd_world.specs.declared.step.Step.TheVariants as step;
 ghost use Rattle.gd_world.specs.Events.{segment_at};
-ghost use Rattle.gd_world.specs.Sessions.{AreLawful, sent_by, emitted_by, IsSessionOf, Recalls};
-ghost use Rattle.gd_world.specs.Inside.{Stays, Moves, CanBegin, EntersAsked, AreFresh, IsIn, CanSit, TakesTurn, added};
+ghost use Rattle.gd_world.specs.Sessions.{AreLawful, sent_by, emitted_by, last_entry, IsSessionOf, Recalls};
+ghost use Rattle.gd_world.specs.Inside.{StaysBy, Begins, CanBegin, EntersAsked, EntersLeft, AreFresh, IsIn, CanSit, TakesTurn, added};
 ghost use Rattle.ex_slice.specs.Slicing.{working};
 
 use crate::acting;
 use crate::past::{Did, note};
 use crate::step::Step;
-use ex_slice::Slice;
+use ex_slice::{Slice, SliceNo, Turned};
 use ic_base::{ConnEnd, Datagram, SegId, Settings};
+use ic_law::Entry;
 use ic_port::Node;
 use std::alloc::{AllocError, Global};
 use std::marker::Model;
@@ -121,6 +122,32 @@ impl Session {
         }
     }
 
+    /// The number of the session, and 0 if it has no nodes.
+    pub(crate) fn number(&self) -> u32
+        ensures { (n : Noding) → slice_get self.now.nodes 0 ≡ Some n → result ≡ n.hub.session }
+    {
+        match self.nodes.get(0) {
+            Some(node) => node.session(),
+            None => 0,
+        }
+    }
+
+    /// The entry that the last step added to its node's history, if it added one.
+    pub fn last_entry(&self) -> Option<&Entry>
+        ensures { MatchOption result (last_entry self.now ≡ None) (λ e. last_entry self.now ≡ Some e.now) }
+    {
+        let count = self.past.len();
+        if count == 0 {
+            return None;
+        }
+        let did = &self.past[count - 1];
+        let place = did.entry()?;
+        match self.nodes.get(place_of(did.step().at())) {
+            Some(node) => node.entries().get(place),
+            None => None,
+        }
+    }
+
     /// The datagram that was emitted under this number, from 0, in another owner. Walks the past.
     pub fn sent(&self, number: u64) -> Result<Option<Datagram>, AllocError>
         ensures { IfOk result (λ datagram. datagram ≡ slice_get (sent_by self.now) number) }
@@ -146,7 +173,7 @@ impl Session {
         ends: Vec<ConnEnd>,
     ) -> Result<(), AllocError>
         requires { CanBegin at query ends.items self.old }
-        ensures ok { OnOk result (EntersAsked (Moves query ends.items) at (step.Begin at) (ask.Begin query ends.items) self.old self.new) }
+        ensures ok { OnOk result (EntersAsked (Begins query ends.items) at (step.Begin at) (ask.Begin query ends.items) self.old self.new) }
         ensures err { OnErr result (self.new ≡ self.old) }
     {
         self.past.reserve(1)?;
@@ -166,7 +193,7 @@ impl Session {
         datagram: Datagram,
     ) -> Result<(), AllocError>
         requires { node_of at < length self.old.nodes }
-        ensures ok { OnOk result (EntersAsked Stays at (step.Deliver number at) (ask.Arrive datagram) self.old self.new) }
+        ensures ok { OnOk result (EntersAsked StaysBy at (step.Deliver number at) (ask.Arrive datagram) self.old self.new) }
         ensures err { OnErr result (self.new ≡ self.old) }
     {
         self.past.reserve(1)?;
@@ -181,7 +208,7 @@ impl Session {
     /// The clock of this segment's node goes on. Room for the step is taken first.
     pub(crate) fn tick(&mut self, alloc: Global, at: SegId) -> Result<(), AllocError>
         requires { node_of at < length self.old.nodes }
-        ensures ok { OnOk result (EntersAsked Stays at (step.Tick at) ask.Tick self.old self.new) }
+        ensures ok { OnOk result (EntersAsked StaysBy at (step.Tick at) ask.Tick self.old self.new) }
         ensures err { OnErr result (self.new ≡ self.old) }
     {
         self.past.reserve(1)?;
@@ -192,18 +219,19 @@ impl Session {
         Ok(())
     }
 
-    /// The node of this segment asks to leave its query, which is this one. Room for the step is taken first.
-    pub(crate) fn leave(&mut self, at: SegId, query: u32) -> Result<(), AllocError>
+    /// The node of this segment asks to leave its query, which is this one; tells whether it left. Room for the step is taken
+    /// first.
+    pub(crate) fn leave(&mut self, at: SegId, query: u32) -> Result<bool, AllocError>
         requires { IsIn at query self.old }
-        ensures ok { OnOk result (EntersAsked Stays at (step.Leave at) (ask.Leave query) self.old self.new) }
+        ensures ok { IfOk result (λ gone. EntersLeft gone at query self.old self.new) }
         ensures err { OnErr result (self.new ≡ self.old) }
     {
         self.past.reserve(1)?;
         let node = &mut self.nodes[place_of(at)];
         let place = node.entries().len();
-        acting::leave(node)?;
+        let gone = acting::leave(node)?;
         note(&mut self.past, Did::new(Step::Leave(at), None, Some(place)));
-        Ok(())
+        Ok(gone)
     }
 
     /// The slice of this number takes a turn at the node of this segment. Room for the step is taken first.
@@ -213,9 +241,9 @@ impl Session {
         at: SegId,
         number: u32,
         slice: &mut Slice<'_>,
-    ) -> Result<(), AllocError>
+    ) -> Result<Result<Turned, SliceNo>, AllocError>
         requires { CanSit at number (working slice.old) self.old }
-        ensures ok { OnOk result (TakesTurn at number (working slice.old) (working slice.new) self.old self.new) }
+        ensures ok { IfOk result (λ answer. TakesTurn answer at number (working slice.old) (working slice.new) self.old self.new) }
         ensures err { OnErr result (self.new ≡ self.old) }
         ensures slice { OnErr result (slice.new ≡ slice.old) }
     {
@@ -226,6 +254,6 @@ impl Session {
         let place = added(seen, node.entries().len());
         let step = Step::Turn { slice: number, at };
         note(&mut self.past, Did::new(step, Some(answer), place));
-        Ok(())
+        Ok(answer)
     }
 }

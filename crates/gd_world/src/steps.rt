@@ -1,23 +1,23 @@
 // The parts of a step but the turns.
-ghost use Rattle.std.specs.Prelude.{◌≡◌, ◌<◌, ◌∷◌, [], List, slice_get, Some, None, IfOk, IfSome, IsTrue, ◌↔◌, MatchOption, ℕ, OnErr, length};
+ghost use Rattle.std.specs.Prelude.{◌≡◌, ◌<◌, true, slice_get, IfOk, IsTrue, ◌↔◌, OnOk, OnErr, length};
 ghost use Rattle.ic_law.specs.Streams.{node_of};
 ghost use Rattle.gd_world.specs.Events.{segment_at};
 ghost use Rattle.gd_world.specs.declared.step.Step.TheVariants as step;
 ghost use Rattle.gd_world.specs.Worlds.{IsWorld};
-ghost use Rattle.gd_world.specs.Steps.{Steps};
-ghost use Rattle.gd_world.specs.Inside.{MayBegin, InQuery, IsInside, EndsOf};
+ghost use Rattle.gd_world.specs.Steps.{Steps, WasSent};
+ghost use Rattle.gd_world.specs.Inside.{MayBegin, InQuery, MayLeave, marked, EndsOf};
 
 use crate::session::place_of;
 use crate::world::World;
-use ic_base::{ConnEnd, SegId};
+use ic_base::{ConnEnd, Datagram, SegId};
 use ic_port::Node;
 use std::alloc::{AllocError, Global};
 
-/// Is the node in the query of this number?
-fn is_in(query: u32, node: &Node) -> bool
-    ensures { InQuery result query node.now }
+/// Has the node begun the query of this number, and not left it?
+fn is_in(query: u32, node: &Node, gone: bool) -> bool
+    ensures { InQuery result query node.now gone }
 {
-    node.query() == query && node.ends().len() > 0
+    node.query() == query && !gone
 }
 
 impl World<'_> {
@@ -41,11 +41,13 @@ impl World<'_> {
     }
 
     /// Is this node in the query?
-    fn is_inside(&self, at: SegId) -> bool
-        ensures { IsInside result self.now.query (slice_get self.now.session.nodes (node_of at)) }
+    fn may_leave(&self, at: SegId) -> bool
+        ensures may { MayLeave result self.now.query (slice_get self.now.session.nodes (node_of at)) (marked (slice_get self.now.left.items (node_of at))) }
+        ensures back { at ≡ segment_at (node_of at) }
     {
+        let gone = self.is_marked(at);
         match self.session.nodes.get(place_of(at)) {
-            Some(node) => is_in(self.query, node),
+            Some(node) => is_in(self.query, node, gone),
             None => false,
         }
     }
@@ -96,6 +98,25 @@ impl World<'_> {
         Ok(true)
     }
 
+    /// Does `Deliver` of this number, with its datagram in hand, to the node that it is addressed to. The past isn't walked. Fails
+    /// only if out of memory, and then nothing was done.
+    pub fn deliver_sent(
+        &mut self,
+        alloc: Global,
+        number: u64,
+        datagram: Datagram,
+    ) -> Result<(), AllocError>
+        requires world { IsWorld self.old }
+        requires sent { WasSent number datagram self.old }
+        ensures ok { OnOk result (Steps (step.Deliver number datagram.to) true self.old self.new) }
+        ensures err { OnErr result (self.new ≡ self.old) }
+        ensures world { IsWorld self.new }
+    {
+        let to = datagram.to;
+        self.session.deliver(alloc, to, number, datagram)?;
+        Ok(())
+    }
+
     pub(crate) fn tick(&mut self, alloc: Global, at: SegId) -> Result<bool, AllocError>
         requires { IsWorld self.old }
         ensures ok { IfOk result (λ applies. Steps (step.Tick at) applies self.old self.new) }
@@ -113,10 +134,11 @@ impl World<'_> {
         ensures ok { IfOk result (λ applies. Steps (step.Leave at) applies self.old self.new) }
         ensures err { OnErr result (self.new ≡ self.old) }
     {
-        if !self.is_inside(at) {
+        if !self.may_leave(at) {
             return Ok(false);
         }
-        self.session.leave(at, self.query)?;
+        let gone = self.session.leave(at, self.query)?;
+        self.left[place_of(at)] = gone;
         Ok(true)
     }
 }

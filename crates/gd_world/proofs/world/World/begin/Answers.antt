@@ -9,4 +9,4 @@ begin-requires c =
 pub returns-clause-ok : goal.returns-clause-ok
 returns-clause-ok c =
     let may = c.if-not-may_begin.ensures.may in
-    begin_adds c.args.at c.in_ok-ends.ends.items may.0 c.args.self.now _ may.1 c.in_ok-ends.ensures (record { plan = refl; query = refl; seats = refl }) refl c.in_ok-begin.ensures.ok
+    begin_adds c.args.at c.in_ok-ends.ends.items may.0 c.args.self.now _ may.1 may.2 c.in_ok-ends.ensures (record { plan = refl; query = refl; seats = refl }) refl refl c.in_ok-begin.ensures.ok
