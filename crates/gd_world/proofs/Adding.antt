@@ -36,22 +36,22 @@ deliver_adds at number d a b same slices left sent to t =
     asks_add StaysBy (step.Deliver number at) (ask.Arrive d) a b same slices t (marks_same a b (step.Deliver number at) (asked (ask.Arrive d) t.reply) left (λ z. refl)) tt (λ slice seat. refl)
     (λ q x stands was. stays_reached q (node_of at) x.events (event_of (all_events x) (step.Deliver number at) None (asked (ask.Arrive d) t.reply)) t.enters.node t.enters.now refl refl t.enters.goes was)
     (λ q x stands.
-        subst (λ z. IsStep (running q) (all_events x) (event_of (all_events x) (step.Deliver number z) None (asked (ask.Arrive d) t.reply))) to
-        (delivers number d t.reply (ap (λ l. slice_get l number) (sym (sent_is (all_events x) a.session stands.recalls)) ∙ sent)))
+    subst (λ z. IsStep (running q) (all_events x) (event_of (all_events x) (step.Deliver number z) None (asked (ask.Arrive d) t.reply))) to
+    (delivers number d t.reply (ap (λ l. slice_get l number) (sym (sent_is (all_events x) a.session stands.recalls)) ∙ sent)))
 
 pub begin_adds : (at : ℤ) (ends : List ConnEnd) (n : Noding) (a b : World) → slice_get a.session.nodes (node_of at) ≡ Some n → n.query < a.query → EndsOf a at ends → SameQuery a b → b.slices ≡ a.slices → b.left ≡ a.left
     → EntersAsked (Begins a.query ends) at (step.Begin at) (ask.Begin a.query ends) a.session b.session → Steps (step.Begin at) true a b
 begin_adds at ends n a b here later are same slices left t =
     asks_add (Begins a.query ends) (step.Begin at) (ask.Begin a.query ends) a b same slices t (marks_same a b (step.Begin at) (asked (ask.Begin a.query ends) t.reply) left (λ z. refl)) tt (λ slice seat. refl)
     (λ q x stands was.
-        let all : ends ≡ all_ends q (segment_at (node_of at)) = ends_are q x a at ends n stands here are ∙ ap (all_ends q) t.enters.back in
-        let node_is : n ≡ t.enters.node = same_some n t.enters.node (sym here ∙ t.enters.here) in
-        begins_reached q (node_of at) x.events (event_of (all_events x) (step.Begin at) None (asked (ask.Begin a.query ends) t.reply)) (was_begun t.reply) t.enters.node t.enters.now
-        (ap (λ c. c && was_begun t.reply) (ap (int_eq at) (sym t.enters.back) ∙ int_same at)) refl (subst (λ (m : Noding). m.query < q.number) node_is (subst (λ k. n.query < k) stands.plan.number_is later))
-        (subst (λ l. BeginsIf (was_begun t.reply) q.number l t.enters.node t.enters.now) all (subst (λ k. BeginsIf (was_begun t.reply) k ends t.enters.node t.enters.now) stands.plan.number_is t.enters.goes)) was)
+    let all : ends ≡ all_ends q (segment_at (node_of at)) = ends_are q x a at ends n stands here are ∙ ap (all_ends q) t.enters.back in
+    let node_is : n ≡ t.enters.node = same_some n t.enters.node (sym here ∙ t.enters.here) in
+    begins_reached q (node_of at) x.events (event_of (all_events x) (step.Begin at) None (asked (ask.Begin a.query ends) t.reply)) (was_begun t.reply) t.enters.node t.enters.now
+    (ap (λ c. c && was_begun t.reply) (ap (int_eq at) (sym t.enters.back) ∙ int_same at)) refl (subst (λ (m : Noding). m.query < q.number) node_is (subst (λ k. n.query < k) stands.plan.number_is later))
+    (subst (λ l. BeginsIf (was_begun t.reply) q.number l t.enters.node t.enters.now) all (subst (λ k. BeginsIf (was_begun t.reply) k ends t.enters.node t.enters.now) stands.plan.number_is t.enters.goes)) was)
     (λ q x stands.
-        subst (λ l. IsStep (running q) (all_events x) (event_of (all_events x) (step.Begin at) None (asked (ask.Begin a.query l) t.reply))) (sym (ends_are q x a at ends n stands here are))
-        (subst (λ k. IsStep (running q) (all_events x) (event_of (all_events x) (step.Begin at) None (asked (ask.Begin k (all_ends q at)) t.reply))) (sym stands.plan.number_is) (begins_it at t.reply)))
+    subst (λ l. IsStep (running q) (all_events x) (event_of (all_events x) (step.Begin at) None (asked (ask.Begin a.query l) t.reply))) (sym (ends_are q x a at ends n stands here are))
+    (subst (λ k. IsStep (running q) (all_events x) (event_of (all_events x) (step.Begin at) None (asked (ask.Begin k (all_ends q at)) t.reply))) (sym stands.plan.number_is) (begins_it at t.reply)))
 
 pub leave_adds : (at : ℤ) (n : Noding) (gone : Bool) (a b : World) → slice_get a.session.nodes (node_of at) ≡ Some n → n.query ≡ a.query → SameQuery a b → b.slices ≡ a.slices
     → b.left.items ≡ set a.left.items (node_of at) gone → marked (slice_get a.left.items (node_of at)) ≡ false → EntersLeft gone at a.query a.session b.session → Steps (step.Leave at) true a b
@@ -59,11 +59,11 @@ leave_adds at n gone a b here query same slices left unmarked t =
     let does = t.does in
     asks_add Leaves (step.Leave at) (ask.Leave a.query) a b same slices does (marks_leave a b at (asked (ask.Leave a.query) does.reply) gone does.enters.back left unmarked t.told) tt (λ slice seat. refl)
     (λ q x stands was.
-        let node_is : n ≡ does.enters.node = same_some n does.enters.node (sym here ∙ does.enters.here) in
-        leaves_reached q (node_of at) x.events (event_of (all_events x) (step.Leave at) None (asked (ask.Leave a.query) does.reply)) (was_left does.reply) does.enters.node does.enters.now refl
-        (ap (λ c. c && was_left does.reply) (ap (int_eq at) (sym does.enters.back) ∙ int_same at)) (subst (λ (m : Noding). m.query ≡ q.number) node_is (query ∙ stands.plan.number_is)) does.enters.goes was)
+    let node_is : n ≡ does.enters.node = same_some n does.enters.node (sym here ∙ does.enters.here) in
+    leaves_reached q (node_of at) x.events (event_of (all_events x) (step.Leave at) None (asked (ask.Leave a.query) does.reply)) (was_left does.reply) does.enters.node does.enters.now refl
+    (ap (λ c. c && was_left does.reply) (ap (int_eq at) (sym does.enters.back) ∙ int_same at)) (subst (λ (m : Noding). m.query ≡ q.number) node_is (query ∙ stands.plan.number_is)) does.enters.goes was)
     (λ q x stands.
-        subst (λ k. IsStep (running q) (all_events x) (event_of (all_events x) (step.Leave at) None (asked (ask.Leave k) does.reply))) (sym stands.plan.number_is) (leaves_it at does.reply))
+    subst (λ k. IsStep (running q) (all_events x) (event_of (all_events x) (step.Leave at) None (asked (ask.Leave k) does.reply))) (sym stands.plan.number_is) (leaves_it at does.reply))
 
 pub may_begin_it : (at : ℤ) (ends : List ConnEnd) (w : World) (n : Noding) → IsWorld w → at ≡ segment_at (node_of at) → slice_get w.session.nodes (node_of at) ≡ Some n → n.query < w.query → EndsOf w at ends → CanBegin at w.query ends w.session
 may_begin_it at ends w n is back here later are = can_begin is.query is.account w at ends n is.stands back here later are

@@ -1,4 +1,5 @@
 pub mod Places
+pub mod Vecs
 pub mod Finding
 pub mod Recalling
 pub mod Made

@@ -161,9 +161,9 @@ pub marks_same : (a b : World) (s : Step) (entry : Option Entry) → b.left ≡ 
 marks_same a b s entry same none = record {
   count = ap (λ v. length v.items) same;
   each = λ k gone here. (
-      gone,
-      sym (ap (λ v. slice_get v.items k) same) ∙ here,
-      sym (or_none gone) ∙ ap (λ c. gone || (c && left_with entry)) (sym (none (segment_at k))),
+    gone,
+    sym (ap (λ v. slice_get v.items k) same) ∙ here,
+    sym (or_none gone) ∙ ap (λ c. gone || (c && left_with entry)) (sym (none (segment_at k))),
   );
 }
 

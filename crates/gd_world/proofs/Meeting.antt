@@ -148,7 +148,7 @@ fresh_stands q j session number seat slice is of fresh =
     let part = part_for j q.site.tables (id_of session number seat) in
     let worker : worker_of j q.site.tables seat.slice seat.at ≡ worker_in q seat = worker_same q j number seat is in
     let ends : ends_at j q.site.tables session number seat ≡ ends_in q seat =
-        ap (λ w. ends_of w session number) worker ∙ ap (λ s. ends_of (worker_in q seat) s number) of ∙ ap (λ n. ends_of (worker_in q seat) q.session n) is.number_is in
+    ap (λ w. ends_of w session number) worker ∙ ap (λ s. ends_of (worker_in q seat) s number) of ∙ ap (λ n. ends_of (worker_in q seat) q.session n) is.number_is in
     record {
       told = fresh.going;
       answers = tt;

@@ -1,5 +1,5 @@
 -- Elements of lists at their places, and tests of numbers.
-use Rattle.std.proofs.Common.{◌≡◌, ◌⊎◌, ℕ, zero, suc, ◌+◌, ◌<◌, ◌==◌, ℤ, List, [], ◌∷◌, ◌++◌, length, set, Bool, true, false, Some, None, refl, ap, sym, ◌∙◌, subst, arith, inl, inr, slice_get}
+use Rattle.std.proofs.Common.{◌≡◌, ◌⊎◌, ℕ, zero, suc, ◌+◌, ◌<◌, ◌==◌, ℤ, List, [], ◌∷◌, ◌++◌, length, set, Bool, true, false, not, Some, None, refl, ap, sym, ◌∙◌, subst, arith, inl, inr, slice_get}
 use Rattle.std.proofs.lemmas.Bool.Decides.{eqb_tells, Decides-int_eq}
 use Rattle.std.specs.Ordering.{int_eq}
 
@@ -27,6 +27,16 @@ eqb_same n = elim (eqb_tells n n) [ inl w ↦ w.0 | inr w ↦ absurd (w.1 refl) 
 
 pub int_same : (x : ℤ) → int_eq x x ≡ true
 int_same x = (Decides-int_eq x x).1 refl
+
+pub int_differs : (x y : ℤ) → not (int_eq x y) ≡ true → x ≡ y → ⊥
+int_differs x y h e = let same : int_eq x y ≡ true = ap (int_eq x) (sym e) ∙ int_same x in let bad : false ≡ true = sym (ap not same) ∙ h in cc
+
+pub int_equals : (x y : ℤ) → not (int_eq x y) ≡ false → x ≡ y
+int_equals x y h = by (int_eq x y) refl h
+  where
+    by : (b : Bool) → int_eq x y ≡ b → not b ≡ false → x ≡ y
+    by true e n = (Decides-int_eq x y).0 e
+    by false e n = absurd (let bad : true ≡ false = n in cc)
 
 pub append_cancel : {X : Type 0} (xs ys zs : List X) → xs ++ ys ≡ xs ++ zs → ys ≡ zs
 append_cancel [] ys zs e = e

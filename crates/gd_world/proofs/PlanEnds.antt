@@ -112,8 +112,8 @@ keys_from m [] receivers once = tt
 keys_from m (from ∷ froms) receivers once =
     keys_both (map (link_of m from) m.receivers) (flat_map (λ f. map (link_of m f) m.receivers) froms) (keys_to m from m.receivers receivers) (keys_from m froms receivers once.1)
     (λ l k here there same.
-        let w = In-from_flat (λ f. map (link_of m f) m.receivers) k froms there in
-        once.0 (subst (λ z. In z froms) (sym (sym (from_is m from l here).1 ∙ same.1 ∙ (from_is m w.0 k w.2).1)) w.1))
+    let w = In-from_flat (λ f. map (link_of m f) m.receivers) k froms there in
+    once.0 (subst (λ z. In z froms) (sym (sym (from_is m from l here).1 ∙ same.1 ∙ (from_is m w.0 k w.2).1)) w.1))
 
 motion_is : (m : Motion) (l : Link) → In l (links_of m) → l.motion ≡ m.number
 motion_is m l among = let w = In-from_flat (λ f. map (link_of m f) m.receivers) l m.senders among in (from_is m w.0 l w.2).0
@@ -128,8 +128,8 @@ keys_once n k [] h = tt
 keys_once n k (m ∷ ms) h =
     keys_both (links_of m) (flat_map links_of ms) (keys_from m m.senders h.1.receivers h.1.senders) (keys_once (suc n) k ms h.2)
     (λ l j here there same.
-        let w = In-from_flat links_of j ms there in
-        omega (arith, h.0, motion_is m l here, same.0, motion_is w.0 j w.2, number_high (suc n) k ms w.0 h.2 w.1))
+    let w = In-from_flat links_of j ms there in
+    omega (arith, h.0, motion_is m l here, same.0, motion_is w.0 j w.2, number_high (suc n) k ms w.0 h.2 w.1))
 
 -- ---- so no two ends have the same key and side
 
@@ -170,6 +170,7 @@ module _ (session query : ℕ) (at : ℤ) where
     where
       differ : true ≢ false
       differ e = cc
+
       by : (a b : Bool) → Once (end_if a (end_of session query true l) ++ end_if b (end_of session query false l))
       by true true = (λ x among same. elim among [ inl q ↦ λ e. differ (e ∙ ap (λ (y : ConnEnd). y.sending) q) | inr i ↦ absurd i ], (λ x i. absurd i, tt))
       by true false = (λ x i. absurd i, tt)
@@ -181,9 +182,9 @@ module _ (session query : ℕ) (at : ℤ) where
   once_all (l ∷ ls) h =
       once_both (ends_at session query at l) (flat_map (ends_at session query at) ls) (once_at l) (once_all ls h.1)
       (λ x y here there same.
-          let w = In-from_flat (ends_at session query at) y ls there in
-          let keys : key_of session query l ≡ key_of session query w.0 = sym (key_is l x here) ∙ same ∙ key_is w.0 y w.2 in
-          absurd (h.0 w.0 w.1 (ap (λ (k : ConnKey). k.motion) keys, ap (λ (k : ConnKey). k.from) keys, ap (λ (k : ConnKey). k.to) keys)))
+      let w = In-from_flat (ends_at session query at) y ls there in
+      let keys : key_of session query l ≡ key_of session query w.0 = sym (key_is l x here) ∙ same ∙ key_is w.0 y w.2 in
+      absurd (h.0 w.0 w.1 (ap (λ (k : ConnKey). k.motion) keys, ap (λ (k : ConnKey). k.from) keys, ap (λ (k : ConnKey). k.to) keys)))
 
   -- ---- and each is one that may begin here
 

@@ -186,10 +186,10 @@ module _ (q : Query) (x : Account) (a b : World) (k : ℕ) (seat : Seat) (was no
       let worker = worker_now stands sits has own in
       let enters = turn_enters answer seat.at seat.slice (working was) (working now) a.session b.session t in
       let seats_same : b.seats.items ≡ a.seats.items = ap (λ v. v.items) same.seats in
-      let marks = marks_same a b e left (λ z. refl) in
+      let marks = marks_same a b (step.Turn seat.slice seat.at) entry left (λ z. refl) in
       let step_is = turns seat.slice seat.at answer entry (of_turn answer seat.at seat.slice (working was) (working now) a.session b.session t).call in
       let apart_at : (l : ℕ) (other : Seat) → slice_get a.seats.items l ≡ Some other → (k ≡ l → ⊥) → seat ≡ other → ⊥ =
-          λ l other there ne is. ne (stands.seats.once k l other (sits ∙ ap Some is) there) in
+      λ l other there ne is. ne (stands.seats.once k l other (sits ∙ ap Some is) there) in
       record {
         step = step_is;
         courses = courses_with worker.0;

@@ -121,9 +121,9 @@ module _ (s : List Schema) (segments : ℕ) (least : 1 ≤ segments) where
   seats_once tree (suc n) =
       NoTwice-append (map (seat_of n) (gang_of s segments tree n)) (seats_below s segments tree n) (once_map (gang_of s segments tree n) (gang_is tree n).once) (seats_once tree n)
       (λ z i j.
-          let w = In-from_map (seat_of n) z (gang_of s segments tree n) i in
-          let slice : z.slice ≡ n = ap (λ (y : Seat). y.slice) w.2 in
-          omega (arith, slice, (seats_within tree n z j).0))
+      let w = In-from_map (seat_of n) z (gang_of s segments tree n) i in
+      let slice : z.slice ≡ n = ap (λ (y : Seat). y.slice) w.2 in
+      omega (arith, slice, (seats_within tree n z j).0))
     where
       once_map : (gang : List ℤ) → NoTwice gang → NoTwice (map (seat_of n) gang)
       once_map [] once = tt
@@ -134,13 +134,14 @@ module _ (s : List Schema) (segments : ℕ) (least : 1 ≤ segments) where
 
 seat_there : (s : List Schema) (segments : ℕ) (tree : Tree) (slice : ℕ) (at : ℤ) (n : ℕ) → slice < n → In at (gang_of s segments tree slice) → In (seat_of slice at) (seats_below s segments tree n)
 seat_there s segments tree slice at zero lt i = absurd (omega (arith, lt))
-seat_there s segments tree slice at (suc n) lt i = by (slice_or (omega (arith, lt)))
+seat_there s segments tree slice at (suc n) lt i = by (slice_or (omega (arith, lt))) (λ l. seat_there s segments tree slice at n l i)
   where
     slice_or : slice ≤ n → (slice ≡ n) ⊎ (slice < n)
     slice_or le = grind (arith, le)
-    by : (slice ≡ n) ⊎ (slice < n) → In (seat_of slice at) (map (seat_of n) (gang_of s segments tree n) ++ seats_below s segments tree n)
-    by (inl e) = subst (λ m. In (seat_of slice at) (map (seat_of m) (gang_of s segments tree m) ++ seats_below s segments tree n)) e (In-left (seat_of slice at) (map (seat_of slice) (gang_of s segments tree slice)) (seats_below s segments tree n) (In-map (seat_of slice) at (gang_of s segments tree slice) i))
-    by (inr l) = In-right (seat_of slice at) (map (seat_of n) (gang_of s segments tree n)) (seats_below s segments tree n) (seat_there s segments tree slice at n l i)
+
+    by : (slice ≡ n) ⊎ (slice < n) → (slice < n → In (seat_of slice at) (seats_below s segments tree n)) → In (seat_of slice at) (map (seat_of n) (gang_of s segments tree n) ++ seats_below s segments tree n)
+    by (inl e) below = subst (λ m. In (seat_of slice at) (map (seat_of m) (gang_of s segments tree m) ++ seats_below s segments tree n)) e (In-left (seat_of slice at) (map (seat_of slice) (gang_of s segments tree slice)) (seats_below s segments tree n) (In-map (seat_of slice) at (gang_of s segments tree slice) i))
+    by (inr l) below = In-right (seat_of slice at) (map (seat_of n) (gang_of s segments tree n)) (seats_below s segments tree n) (below l)
 
 -- only slices of the plan have workers
 slice_there : (s : List Schema) (segments : ℕ) (tree : Tree) (slice : ℕ) (at : ℤ) → In at (gang_of s segments tree slice) → slice < slices_in tree
@@ -148,6 +149,7 @@ slice_there s segments tree slice at i = by (lt_or slice (slices_in tree))
   where
     lt_or : (k n : ℕ) → (k < n) ⊎ (n ≤ k)
     lt_or k n = grind arith
+
     by : (slice < slices_in tree) ⊎ (slices_in tree ≤ slice) → slice < slices_in tree
     by (inl lt) = lt
     by (inr le) =

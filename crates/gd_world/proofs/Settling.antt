@@ -231,8 +231,8 @@ module _ (w : Worker) (ends : List ConnEnd) (old new : Working) (answer : Answer
       let now : log_of ends b.entries ≡ log_of ends a.entries ++ log_of ends (entries_in entry) = ap (log_of ends) grown ∙ log_append ends a.entries (entries_in entry) in
       let logged : log_of ends b.entries ≡ logged_by ends (ts ++ taken ∷ []) = now ∙ ap (λ l. l ++ log_of ends (entries_in entry)) log_is ∙ sym (flat_map-push (logs_turn ends) ts taken) in
       let called : calls_of turn.more ≡ log_of ends (entries_in entry) =
-          append_cancel (calls_of c.steps) (calls_of turn.more) (log_of ends (entries_in entry))
-          (sym (map-append (λ (s : Call). s.entry) c.steps turn.more) ∙ sym turn.log ∙ now ∙ ap (λ l. l ++ log_of ends (entries_in entry)) (log_is ∙ sym calls_are)) in
+      append_cancel (calls_of c.steps) (calls_of turn.more) (log_of ends (entries_in entry))
+      (sym (map-append (λ (s : Call). s.entry) c.steps turn.more) ∙ sym turn.log ∙ now ∙ ap (λ l. l ++ log_of ends (entries_in entry)) (log_is ∙ sym calls_are)) in
       settles w part ends listens old new c turn.more turn.once (logged_by ends (ts ++ taken ∷ [])) (log_of ends (entries_in entry)) (sym turn.log ∙ logged) called answer turn.leaves sat.stands sat.busy
 
   settled : (c : Course) → Sat ends old new answer a b → b.entries ≡ a.entries ++ entries_in entry → log_of ends a.entries ≡ logged_by ends ts → Keeps w ends old (logged_by ends ts) c

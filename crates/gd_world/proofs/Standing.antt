@@ -129,7 +129,7 @@ event_same n es s entry is = ap (λ p. record { did = record { step = s; turned 
 pub asks_add : (P : HubReply → Noding → Noding → Type 0) (s : Step) (asking : HubAsk) (a b : World) → SameQuery a b → b.slices ≡ a.slices → (t : EntersAsked P (at_of s) s asking a.session b.session) → MarksOn a b s (asked asking t.reply)
     → IsDrivers asking → ((slice : ℕ) (at : ℤ) → is_of slice at s ≡ false)
     → ((q : Query) (x : Account) → Stands q x a → IsReached q (node_of (at_of s)) x.events t.enters.node
-        → IsReached q (node_of (at_of s)) (x.events ++ event_of (all_events x) s None (asked asking t.reply) ∷ []) t.enters.now)
+    → IsReached q (node_of (at_of s)) (x.events ++ event_of (all_events x) s None (asked asking t.reply) ∷ []) t.enters.now)
     → ((q : Query) (x : Account) → Stands q x a → IsStep (running q) (all_events x) (event_of (all_events x) s None (asked asking t.reply))) → Steps s true a b
 asks_add P s asking a b same slices t marks driver none reach step = (
   record { did = record { step = s; turned = None; entry = place_in t.enters.node (asked asking t.reply) }; entry = asked asking t.reply },

@@ -38,11 +38,7 @@ pub(crate) fn begin(
 }
 
 /// Hands a datagram over.
-pub(crate) fn deliver(
-    alloc: Global,
-    node: &mut Node,
-    datagram: Datagram,
-) -> Result<(), AllocError>
+pub(crate) fn deliver(alloc: Global, node: &mut Node, datagram: Datagram) -> Result<(), AllocError>
     ensures ok { OnOk result (Does StaysBy (ask.Arrive datagram) node.old node.new) }
     ensures err { OnErr result (node.new ≡ node.old) }
 {
@@ -56,7 +52,13 @@ pub(crate) fn tick(alloc: Global, node: &mut Node) -> Result<(), AllocError>
 {
     match node.tick(alloc) {
         Ok(()) => Ok(()),
-        Err(TickNo::Spent { key: _, seq: _, tries: _ }) => Ok(()),
+        Err(
+            TickNo::Spent {
+                key: _,
+                seq: _,
+                tries: _,
+            },
+        ) => Ok(()),
         Err(TickNo::Memory) => Err(AllocError),
     }
 }

@@ -13,10 +13,10 @@
 
 mod acting;
 mod laws;
+mod making;
 mod past;
 mod playing;
 mod seat;
-mod seating;
 mod session;
 mod step;
 mod steps;
@@ -29,3 +29,6 @@ pub use seat::Seat;
 pub use session::Session;
 pub use step::Step;
 pub use world::World;
+
+#[cfg(test)]
+mod tests;

@@ -61,6 +61,13 @@ fn added(seen: usize, now: usize) -> Option<usize>
     if seen < now { Some(seen) } else { None }
 }
 
+/// The same answer, to be kept.
+fn kept(answer: &Result<Turned, SliceNo>) -> Result<Turned, SliceNo>
+    ensures { result ≡ answer.now }
+{
+    *answer
+}
+
 impl Session {
     /// The dispatcher and so many segments, in which nothing was done.
     pub fn new(
@@ -253,7 +260,7 @@ impl Session {
         let answer = acting::turn(alloc, node, slice, number);
         let place = added(seen, node.entries().len());
         let step = Step::Turn { slice: number, at };
-        note(&mut self.past, Did::new(step, Some(answer), place));
+        note(&mut self.past, Did::new(step, Some(kept(&answer)), place));
         Ok(answer)
     }
 }

@@ -1,5 +1,5 @@
 // The turns of a world's workers.
-ghost use Rattle.std.specs.Prelude.{◌≡◌, slice_get, IfOk, OnErr};
+ghost use Rattle.std.specs.Prelude.{◌≡◌, slice_get, Some, None, MatchOption, IfOk, OnErr};
 ghost use Rattle.ic_law.specs.Streams.{node_of};
 ghost use Rattle.ex_slice.specs.Slicing.{working};
 ghost use Rattle.gd_world.specs.declared.step.Step.TheVariants as step;
@@ -7,6 +7,7 @@ ghost use Rattle.gd_world.specs.Worlds.{IsWorld};
 ghost use Rattle.gd_world.specs.Steps.{Steps, TurnsAt};
 ghost use Rattle.gd_world.specs.Inside.{MaySit, MayTurn, marked};
 
+use crate::seat::Seat;
 use crate::session::place_of;
 use crate::world::World;
 use ex_slice::{Slice, SliceNo, Turned};
@@ -22,6 +23,13 @@ fn may_sit(query: u32, node: &Node, gone: bool, slice: &Slice<'_>) -> bool
 }
 
 impl World<'_> {
+    /// The seat at this place of the list.
+    fn seat_at(&self, k: usize) -> Option<&Seat>
+        ensures { MatchOption result (slice_get self.now.seats.items k ≡ None) (λ seat. slice_get self.now.seats.items k ≡ Some seat.now) }
+    {
+        self.seats.get(k)
+    }
+
     /// Can the worker at this place of the list take a turn at this segment's node?
     fn may_turn(&self, k: usize, at: SegId) -> bool
         ensures { MayTurn result self.now.query (slice_get self.now.session.nodes (node_of at)) (marked (slice_get self.now.left.items (node_of at)))
@@ -49,7 +57,7 @@ impl World<'_> {
         ensures err { OnErr result (self.new ≡ self.old) }
         ensures world { IsWorld self.new }
     {
-        let Some(seat) = self.seats.get(k) else {
+        let Some(seat) = self.seat_at(k) else {
             return Ok(None);
         };
         let slice = seat.slice;
@@ -62,20 +70,19 @@ impl World<'_> {
         Ok(Some(answer))
     }
 
-    pub(crate) fn turn(
-        &mut self,
-        alloc: Global,
-        slice: u32,
-        at: SegId,
-    ) -> Result<bool, AllocError>
+    pub(crate) fn turn(&mut self, alloc: Global, slice: u32, at: SegId) -> Result<bool, AllocError>
         requires { IsWorld self.old }
         ensures ok { IfOk result (λ applies. Steps (step.Turn slice at) applies self.old self.new) }
         ensures err { OnErr result (self.new ≡ self.old) }
         ensures world { IsWorld self.new }
     {
-        match self.seat_of(slice, at) {
-            Some(k) => Ok(self.turn_at(alloc, k)?.is_some()),
-            None => Ok(false),
+        let Some(k) = self.seat_of(slice, at) else {
+            return Ok(false);
+        };
+        match self.turn_at(alloc, k) {
+            Ok(Some(_)) => Ok(true),
+            Ok(None) => Ok(false),
+            Err(no) => Err(no),
         }
     }
 }

@@ -11,8 +11,8 @@ ghost use Rattle.gd_world.specs.Inside.{marked};
 ghost use Rattle.gd_world.specs.Laws.{AreRows};
 ghost use Rattle.pl_runs.specs.Distributed.{Query};
 
+use crate::making::{no_marks, seats_of, slices_of};
 use crate::seat::Seat;
-use crate::seating::{no_marks, seats_of, slices_of};
 use crate::session::{Session, place_of};
 use ex_slice::Slice;
 use ic_base::SegId;

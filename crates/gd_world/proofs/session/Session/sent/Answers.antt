@@ -12,7 +12,7 @@ returns-then-left-count c =
     let f = emitted_by c.args.self.now.nodes in
     ap (λ d. Rattle.std.proofs.Common.Some d) c.in_ok-share.ensures
     ∙ found f c.deref-did-items.result.now c.loop-did.did-index c.args.number c.loop-did.left c.did-item.result c.emitted-datagrams.result.now c.index-datagrams-left.result c.loop-did-test.true c.did-item.is c.emitted-datagrams.ensures c.if-left-count.true c.index-datagrams-left.is
-        c.loop-did.invariant
+    c.loop-did.invariant
     ∙ ap (λ l. slice_get (flat_map f l) c.args.number) (c.deref-did-items.ensures.value ∙ ap (λ (s : Sessional). s.past) c.self.view_is)
 
 pub loop-did-preserved : goal.loop-did-preserved

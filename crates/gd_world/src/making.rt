@@ -16,11 +16,7 @@ use pl_plan::SoundPlan;
 use std::alloc::{AllocError, Global};
 
 /// Puts the seats of one slice behind others.
-fn seat_gang(
-    seats: &mut Vec<Seat>,
-    slice: u32,
-    gang: &[SegId],
-) -> Result<(), AllocError>
+fn seat_gang(seats: &mut Vec<Seat>, slice: u32, gang: &[SegId]) -> Result<(), AllocError>
     ensures { OnOk result (seats.new.items ≡ seats.old.items ++ map (seat_of slice) gang.now) }
 {
     for at in gang {
@@ -77,6 +73,7 @@ pub(crate) fn slices_of<'a>(
     requires { seats.now ≡ seats_of plan.now.schemas plan.now.segments (tree_in plan.now.plan) }
     ensures { IfOk result (λ slices. AreFreshAt plan.now loaded.now session query seats.now slices.items) }
 {
+    plan.is_judged();
     let mut slices = Vec::new(alloc);
     for seat in seats {
         slices.push(slice_at(alloc, plan, loaded, session, query, seat)?)?;
