@@ -17,3 +17,4 @@ pub mod Running
 pub mod Adding
 pub mod Idling
 pub mod Played
+pub mod Tested

@@ -2,6 +2,7 @@
 ghost use Rattle.std.specs.Prelude.{◌≡◌, IfOk, OnOk};
 ghost use Rattle.gd_world.specs.Worlds.{IsWorld};
 
+use crate::session::place_of;
 use crate::{Session, Step, World};
 use ic_base::{SegId, Settings, Text};
 use ic_row::{Kind, Row, Rows, Value};
@@ -67,25 +68,24 @@ fn nodes(alloc: Global) -> Result<Vec<SegId>, AllocError> {
     Ok(nodes)
 }
 
-/// What one round does: turns, all deliveries, ticks and leaves.
+/// What one round does: turns, deliveries and ticks.
 fn add_round(steps: &mut Vec<Step>, nodes: &[SegId]) -> Result<(), AllocError> {
     for at in nodes {
         steps.push(Step::Turn { slice: 1, at: *at })?;
         steps.push(Step::Turn { slice: 0, at: *at })?;
     }
-    for number in 0..16 {
+    for number in 0..8 {
         for at in nodes {
             steps.push(Step::Deliver { number, to: *at })?;
         }
     }
     for at in nodes {
         steps.push(Step::Tick(*at))?;
-        steps.push(Step::Leave(*at))?;
     }
     Ok(())
 }
 
-/// The query begins everywhere, and goes on for some rounds.
+/// The query begins everywhere, goes on for some rounds, and is left everywhere.
 fn steps(alloc: Global, nodes: &[SegId]) -> Result<Vec<Step>, AllocError> {
     let mut steps = Vec::new(alloc);
     for at in nodes {
@@ -93,6 +93,9 @@ fn steps(alloc: Global, nodes: &[SegId]) -> Result<Vec<Step>, AllocError> {
     }
     for _ in 0..12 {
         add_round(&mut steps, nodes)?;
+    }
+    for at in nodes {
+        steps.push(Step::Leave(*at))?;
     }
     Ok(steps)
 }
@@ -118,41 +121,69 @@ fn hand_over(alloc: Global, world: &mut World<'_>, number: u64) -> Result<bool, 
     let Some(datagram) = world.session().sent(number)? else {
         return Ok(false);
     };
-    if datagram.to.number() >= world.segments() as i32 {
+    let place = place_of(datagram.to);
+    let count = world.session().nodes().len();
+    if place >= count {
         return Ok(false);
     }
     world.deliver_sent(alloc, number, datagram)?;
     Ok(true)
 }
 
+/// Goes through all steps.
+fn play_all(alloc: Global, world: &mut World<'_>) -> Result<(), AllocError>
+    requires { IsWorld world.old }
+    ensures world { OnOk result (IsWorld world.new) }
+{
+    let nodes = nodes(alloc)?;
+    let steps = steps(alloc, nodes.as_slice())?;
+    world.play(alloc, steps.as_slice())
+}
+
+/// Whether both rows are let out, each worker is done, and the dispatcher has left.
+fn is_over(world: &World<'_>) -> bool {
+    if world.workers() != 3 || world.rows().len() != 2 {
+        return false;
+    }
+    for k in 0..3 {
+        if !world.is_done_at(k) {
+            return false;
+        }
+    }
+    world.has_left(SegId::DISPATCHER)
+}
+
+/// Whether a turn of the first worker is taken.
+fn takes_a_turn(alloc: Global, world: &mut World<'_>) -> Result<bool, AllocError>
+    requires { IsWorld world.old }
+    ensures world { OnOk result (IsWorld world.new) }
+{
+    match world.turn_at(alloc, 0) {
+        Ok(Some(_)) => Ok(true),
+        Ok(None) => Ok(false),
+        Err(no) => Err(no),
+    }
+}
+
+/// Whether the query runs to its end, and its first worker and its first datagram can be asked for once more.
+fn runs(alloc: Global, plan: &SoundPlan, loaded: &Loaded) -> Result<bool, AllocError> {
+    let mut world = opened(alloc, plan, loaded)?;
+    play_all(alloc, &mut world)?;
+    let over = is_over(&world);
+    let turned = takes_a_turn(alloc, &mut world)?;
+    let handed = hand_over(alloc, &mut world, 0)?;
+    Ok(over && turned && handed)
+}
+
 #[test]
 fn a_gather_runs_to_its_end(rt: HostRuntime) {
-    let alloc = rt.alloc();
-    let (Ok(plan), Ok(loaded)) = (gather(alloc), rows(alloc)) else {
-        assert!(rt; false, "a sound plan with rows");
+    let Ok(plan) = gather(rt.alloc()) else {
+        assert!(rt; false, "a sound plan");
         return;
     };
-    let Ok(nodes) = nodes(alloc) else {
-        assert!(rt; false, "three nodes");
+    let Ok(loaded) = rows(rt.alloc()) else {
+        assert!(rt; false, "its rows");
         return;
     };
-    let (Ok(mut world), Ok(steps)) = (
-        opened(alloc, &plan, &loaded),
-        steps(alloc, nodes.as_slice()),
-    ) else {
-        assert!(rt; false, "a world with its steps");
-        return;
-    };
-    assert!(rt; world.play(alloc, steps.as_slice()).is_ok());
-    assert!(rt; world.workers() == 3);
-    assert!(rt; world.is_done_at(0) && world.is_done_at(1) && world.is_done_at(2));
-    assert!(rt; world.rows().len() == 2);
-    assert!(rt; world.has_left(SegId::DISPATCHER));
-    assert!(rt; matches!(hand_over(alloc, &mut world, 0), Ok(true)));
-    assert!(rt;
-        matches!(
-            world.turn_at(alloc, 0),
-            Ok(Some(Ok(ex_slice::Turned::Done)))
-        )
-    );
+    assert!(rt; matches!(runs(rt.alloc(), &plan, &loaded), Ok(true)));
 }
