@@ -1,21 +1,17 @@
 -- Each step that is no turn adds its event.
-use Rattle.std.proofs.Common.{◌≡◌, ◌⊎◌, ℕ, ◌<◌, ℤ, List, [], ◌∷◌, ◌++◌, set, Bool, true, false, ◌&&◌, Option, Some, None, refl, ap, sym, ◌∙◌, subst, inl, inr, slice_get}
+use Rattle.std.proofs.Common.{◌≡◌, ℕ, ◌<◌, ℤ, List, set, Bool, true, false, ◌&&◌, Some, None, refl, ap, sym, ◌∙◌, subst, slice_get}
 use Rattle.ic_base.specs.declared.keys.ConnEnd.{ConnEnd}
 use Rattle.ic_base.specs.declared.datagram.Datagram.{Datagram}
-use Rattle.ic_law.specs.declared.history.HubAsk.{HubAsk}
 use Rattle.ic_law.specs.declared.history.HubAsk.TheVariants as ask
-use Rattle.ic_law.specs.declared.history.HubReply.{HubReply}
 use Rattle.std.specs.Ordering.{int_eq}
 use Rattle.ic_law.specs.Queries.{was_begun, was_left}
 use Rattle.ic_law.specs.Streams.{node_of}
-use Rattle.pl_runs.specs.Distributed.{Query}
 use Rattle.ic_port.specs.Noding.{Noding}
-use Rattle.gd_world.specs.declared.step.Step.{Step}
 use Rattle.gd_world.specs.declared.step.Step.TheVariants as step
 use Rattle.gd_world.specs.declared.world.World.{World}
-use Rattle.gd_world.specs.Events.{Event, IsStep, begins_it, delivers, ticks, leaves_it, event_of, asked, sent_in, segment_at}
+use Rattle.gd_world.specs.Events.{IsStep, begins_it, delivers, ticks, leaves_it, event_of, asked, segment_at}
 use Rattle.gd_world.specs.Sessions.{sent_by}
-use Rattle.gd_world.specs.Worlds.{Account, IsWorld, all_events, all_ends, running, Stands}
+use Rattle.gd_world.specs.Worlds.{IsWorld, all_events, all_ends, running}
 use Rattle.gd_world.specs.Steps.{Steps}
 use Rattle.gd_world.specs.Inside.{StaysBy, Begins, BeginsIf, Leaves, EntersAsked, EntersLeft, EndsOf, CanBegin, marked}
 use Rattle.gd_world.proofs.Places.{same_some, int_same}

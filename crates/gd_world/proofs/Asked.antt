@@ -1,23 +1,18 @@
 -- What a call makes of its node, and of the session.
-use Rattle.std.proofs.Common.{◌≡◌, ◌⊎◌, ℕ, zero, suc, ◌+◌, ◌<◌, ◌≤◌, ℤ, List, [], ◌∷◌, ◌++◌, length, map, set, get_or, drop, Bool, true, false, Option, Some, None, Result, Ok, Err, IfOk, refl, ap, sym, ◌∙◌, subst, arith, inl, inr, slice_get, append-nil}
-use Rattle.std.specs.List.{AllByRecursion, flat_map}
-use Rattle.ic_base.specs.declared.keys.ConnEnd.{ConnEnd}
-use Rattle.ic_base.specs.declared.datagram.Datagram.{Datagram}
+use Rattle.std.proofs.Common.{◌≡◌, ℕ, ℤ, [], ◌∷◌, ◌++◌, length, set, Bool, true, false, Some, None, Result, Ok, Err, IfOk, refl, ap, ◌∙◌, subst, slice_get}
 use Rattle.ic_law.specs.declared.history.HubAsk.{HubAsk}
-use Rattle.ic_law.specs.declared.history.HubAsk.TheVariants as ask
 use Rattle.ic_law.specs.declared.history.HubReply.{HubReply}
 use Rattle.ic_law.specs.declared.history.HubReply.TheVariants as reply
 use Rattle.ic_law.specs.declared.history.Entry.{Entry}
 use Rattle.ic_law.specs.Streams.{node_of}
 use Rattle.std.specs.declared.alloc.AllocError.{AllocError}
-use Rattle.ic_port.specs.Noding.{Noding, IsLawful}
+use Rattle.ic_port.specs.Noding.{Noding}
 use Rattle.ic_port.specs.Calls.{Adds, LeftOrNot}
 use Rattle.gd_world.specs.declared.step.Step.{Step}
 use Rattle.gd_world.specs.declared.step.Step.TheVariants as step
-use Rattle.gd_world.specs.Doings.{Doing}
-use Rattle.gd_world.specs.Events.{segment_at, asked}
-use Rattle.gd_world.specs.Sessions.{Sessional, emitted_by}
-use Rattle.gd_world.specs.Inside.{StaysBy, Does, DoesLeave, Enters, EntersAsked, EntersLeft}
+use Rattle.gd_world.specs.Events.{segment_at}
+use Rattle.gd_world.specs.Sessions.{Sessional}
+use Rattle.gd_world.specs.Inside.{StaysBy, Does, DoesLeave, EntersAsked, EntersLeft}
 
 -- ---- a node
 

@@ -1,10 +1,8 @@
 -- Why a step doesn't apply, by what was done.
-use Rattle.std.proofs.Common.{◌≡◌, ◌≢◌, ◌⊎◌, ℕ, ◌+◌, ◌<◌, ◌≤◌, ℤ, List, [], ◌∷◌, ◌++◌, length, Bool, true, false, Option, Some, None, Ok, Err, refl, ap, sym, ◌∙◌, subst, arith, inl, inr, slice_get}
-use Rattle.std.specs.List.{Contains}
+use Rattle.std.proofs.Common.{◌≡◌, ℕ, ◌≤◌, ℤ, length, true, false, Option, Some, None, Ok, Err, refl, ap, sym, ◌∙◌, subst, arith, inl, inr, slice_get}
 use Rattle.std.proofs.lemmas.Option.{slice_get_cases, slice_get_within}
 use Rattle.ic_base.specs.declared.datagram.Datagram.{Datagram}
 use Rattle.ic_law.specs.Streams.{node_of}
-use Rattle.pl_plan.specs.Motions.{gang_of}
 use Rattle.pl_runs.specs.Distributed.{Query}
 use Rattle.ic_port.specs.Noding.{Noding}
 use Rattle.ex_slice.specs.declared.slice.Slice.{Slice}
@@ -13,18 +11,17 @@ use Rattle.ex_slice.specs.declared.stage.Stage.TheVariants as stages
 use Rattle.ex_slice.specs.declared.stage.Turned.TheVariants.{Moved, Waiting, Done}
 use Rattle.ex_slice.specs.Slicing.{working}
 use Rattle.ex_slice.specs.Turning.{is_going, is_at_end}
-use Rattle.gd_world.specs.declared.step.Step.{Step}
 use Rattle.gd_world.specs.declared.step.Step.TheVariants as step
 use Rattle.gd_world.specs.declared.seat.Seat.{Seat}
 use Rattle.gd_world.specs.declared.world.World.{World}
 use Rattle.gd_world.specs.Doings.{Answer}
-use Rattle.gd_world.specs.Events.{segment_at, sent_in, has_begun, has_left}
+use Rattle.gd_world.specs.Events.{segment_at, has_begun, has_left}
 use Rattle.gd_world.specs.Sessions.{sent_by}
 use Rattle.gd_world.specs.Turns.{turns_of, last_answer, says_done, is_done, StandsBy}
 use Rattle.gd_world.specs.Workers.{seat_of, seats_in}
 use Rattle.gd_world.specs.Worlds.{Account, all_events, Stands}
 use Rattle.gd_world.specs.Steps.{IsNodeOf, CannotTurn, Idles, IdlesAt}
-use Rattle.gd_world.specs.Inside.{MayBegin, InQuery, MayLeave, MaySit, MayTurn, marked}
+use Rattle.gd_world.specs.Inside.{MayBegin, MayLeave, MayTurn, marked}
 use Rattle.gd_world.proofs.Places.{same_some}
 use Rattle.gd_world.proofs.Marking.{mark_is, begun_is, not_here}
 use Rattle.gd_world.proofs.Sending.{sent_is}

@@ -1,6 +1,5 @@
 -- A session before its first step.
-use Rattle.std.proofs.Common.{◌≡◌, ◌⊎◌, ℕ, zero, suc, ◌+◌, ◌<◌, ℤ, pos, negsuc, List, [], ◌∷◌, ◌++◌, length, Some, None, refl, ap, sym, ◌∙◌, subst, arith, inl, inr, slice_get, length-append}
-use Rattle.std.specs.List.{Contains}
+use Rattle.std.proofs.Common.{◌≡◌, ℕ, suc, ◌+◌, pos, negsuc, List, [], ◌∷◌, ◌++◌, length, Some, None, ap, sym, ◌∙◌, arith, inl, inr, slice_get, length-append}
 use Rattle.ic_base.specs.declared.settings.Settings.{Settings}
 use Rattle.ic_law.proofs.Lists.{Contains-none, get_push}
 use Rattle.ic_port.specs.Noding.{Noding, place_of, fresh}

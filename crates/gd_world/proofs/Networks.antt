@@ -1,12 +1,11 @@
 -- A past of steps is that of a session.
-use Rattle.std.proofs.Common.{◌≡◌, ◌⊎◌, ℕ, zero, suc, ◌+◌, ◌<◌, ◌≤◌, ℤ, pos, negsuc, List, [], ◌∷◌, ◌++◌, length, map, get_or, cond, Option, Some, None, refl, ap, sym, ◌∙◌, subst, inl, inr, arith, append_assoc, append-nil, slice_get}
+use Rattle.std.proofs.Common.{◌≡◌, ◌⊎◌, ℕ, zero, suc, ◌+◌, ◌≤◌, ℤ, pos, negsuc, List, [], ◌∷◌, ◌++◌, length, map, get_or, cond, Option, Some, None, refl, ap, sym, ◌∙◌, subst, inl, inr, arith, append_assoc, append-nil, slice_get}
 use Rattle.std.specs.List.{Contains}
 use Rattle.std.proofs.lemmas.Option.{get_or_from_slice_get, slice_get_within, slice_get_cases, slice_get-map}
 use Rattle.std.proofs.lemmas.List.{get_or_past, length-map}
 use Rattle.std.proofs.lemmas.List.Elements.{Contains-append_left, Contains-append_right}
 use Rattle.std.proofs.lemmas.Bool.Decides.{eqb_tells}
 use Rattle.std.specs.Option.{option_map}
-use Rattle.ic_base.specs.declared.keys.ConnKey.{ConnKey}
 use Rattle.ic_base.specs.declared.settings.Settings.{Settings}
 use Rattle.ic_base.specs.declared.datagram.Datagram.{Datagram}
 use Rattle.ic_law.specs.declared.history.Entry.{Entry}
@@ -14,12 +13,11 @@ use Rattle.ic_law.specs.History.{emits, arrives, emitted_of, arrived_of}
 use Rattle.ic_law.specs.Points.{Place, place_at}
 use Rattle.ic_law.specs.Hub.{HubLaw}
 use Rattle.ic_law.specs.Emission.{EmissionLaw}
-use Rattle.ic_law.specs.Streams.{node_of, history_of, NetworkLaw}
+use Rattle.ic_law.specs.Streams.{history_of, NetworkLaw}
 use Rattle.ic_law.proofs.Lists.{Contains-none, Contains-one, Contains-middle, Contains-flat_map, flat_map-append}
 use Rattle.ic_law.proofs.Following.{follows}
 use Rattle.gd_law.specs.Sessions.{IsSession}
 use Rattle.ic_port.specs.Noding.{Noding, place_of, IsLawful}
-use Rattle.gd_world.specs.declared.step.Step.TheVariants as step
 use Rattle.gd_world.specs.Doings.{at_of}
 use Rattle.gd_world.specs.Events.{Event, Running, IsStep, PlayBehind, IsOfTurn, begins_it, turns, delivers, ticks, leaves_it, node_in, segment_at, entry_at, entries_in, emitted_in, history_in, sent_in}
 use Rattle.gd_world.specs.Sessions.{Sessional, Recalls, IsSessionOf, AreLawful, histories_of, entries_of}

@@ -1,24 +1,22 @@
 -- A session recalls its events with one more.
-use Rattle.std.proofs.Common.{◌≡◌, ◌⊎◌, ℕ, zero, suc, ◌+◌, ◌<◌, ◌==◌, ℤ, List, [], ◌∷◌, ◌++◌, length, map, set, Bool, true, false, cond, Option, Some, None, refl, ap, sym, ◌∙◌, subst, arith, inl, inr, append_assoc, append-nil, slice_get, length-set}
-use Rattle.std.specs.List.{Contains}
+use Rattle.std.proofs.Common.{◌≡◌, ℕ, ℤ, List, [], ◌∷◌, ◌++◌, length, map, cond, Option, Some, None, refl, ap, sym, ◌∙◌, subst, inl, inr, append_assoc, append-nil, slice_get, length-set}
 use Rattle.std.proofs.lemmas.Option.{slice_get_within}
 use Rattle.std.proofs.lemmas.List.{map_push}
 use Rattle.std.proofs.lemmas.List.Elements.{Contains-append_cases}
 use Rattle.std.proofs.lemmas.Bool.Decides.{eqb_tells}
 use Rattle.ic_base.specs.declared.settings.Settings.{Settings}
 use Rattle.ic_law.specs.declared.history.Entry.{Entry}
-use Rattle.ic_law.specs.Points.{Place, place_at}
+use Rattle.ic_law.specs.Points.{place_at}
 use Rattle.ic_law.specs.Streams.{node_of}
 use Rattle.ic_law.proofs.Lists.{flat_map-push, Contains-one}
-use Rattle.ic_hub.specs.Hubbing.{Hubbing, place_in as place_of_hub}
 use Rattle.ic_hub.specs.Calls.{SamePlace}
 use Rattle.ic_port.specs.Noding.{Noding, place_of}
 use Rattle.gd_world.specs.declared.step.Step.{Step}
-use Rattle.gd_world.specs.Doings.{Answer, Doing, at_of}
+use Rattle.gd_world.specs.Doings.{Answer, at_of}
 use Rattle.gd_world.specs.Events.{Event, Running, IsStep, PlayBehind, did_in, node_in, segment_at, entries_in, entry_at, history_in, place_behind, event_of}
 use Rattle.gd_world.specs.Sessions.{Sessional, Recalls, IsWithin, IsSessionOf}
 use Rattle.gd_world.specs.Inside.{Enters, place_in}
-use Rattle.gd_world.proofs.Places.{get_set, same_some}
+use Rattle.gd_world.proofs.Places.{get_set}
 
 -- ---- one entry
 

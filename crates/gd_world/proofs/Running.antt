@@ -1,5 +1,5 @@
 -- The workers of a world run their slices.
-use Rattle.std.proofs.Common.{◌≡◌, ◌⊎◌, ℕ, ◌+◌, ◌<◌, ◌≤◌, ℤ, negsuc, List, [], ◌∷◌, length, Option, Some, None, refl, ap, sym, ◌∙◌, subst, inl, inr, arith, slice_get}
+use Rattle.std.proofs.Common.{◌≡◌, ℕ, ℤ, List, [], Some, refl, ap, sym, ◌∙◌, inl, inr, arith, slice_get}
 use Rattle.std.specs.List.{Contains}
 use Rattle.std.proofs.lemmas.Option.{slice_get_cases, slice_get_within}
 use Rattle.ic_law.specs.Streams.{node_of, history_of}
@@ -10,7 +10,6 @@ use Rattle.pl_runs.specs.Steps.{Step as Call, calls_of}
 use Rattle.pl_runs.specs.Slices.{Worker}
 use Rattle.pl_runs.specs.Runs.{Course}
 use Rattle.pl_runs.specs.Distributed.{Query, IsWorked, dispatcher, worker_at}
-use Rattle.gd_answer.specs.Clean.{IsClean}
 use Rattle.gd_answer.specs.Laws.{IsRunCleanly}
 use Rattle.ex_tree.specs.Parts.{Part}
 use Rattle.ex_tree.specs.Running.{State}
@@ -24,12 +23,12 @@ use Rattle.ex_slice.specs.Working.{Working, Works, HoldsAt, Handles, let_out_by}
 use Rattle.ex_slice.specs.Slicing.{working}
 use Rattle.gd_world.specs.declared.seat.Seat.{Seat}
 use Rattle.gd_world.specs.declared.world.World.{World}
-use Rattle.gd_world.specs.Events.{history_in, segment_at}
+use Rattle.gd_world.specs.Events.{history_in}
 use Rattle.gd_world.specs.Sessions.{AreLawful, histories_of}
 use Rattle.gd_world.specs.Turns.{turns_of, logged_by}
-use Rattle.gd_world.specs.Workers.{IsLost, Keeps, keeps, lost, worker_in, ends_in}
+use Rattle.gd_world.specs.Workers.{IsLost, Keeps, keeps, lost, ends_in}
 use Rattle.gd_world.specs.Worlds.{Account, all_events, Stands}
-use Rattle.gd_world.specs.Laws.{AllHaveRead, AreRows, RootGoes, WorldsRunCleanly, RowsAreLetOut}
+use Rattle.gd_world.specs.Laws.{AllHaveRead, WorldsRunCleanly, RowsAreLetOut}
 use Rattle.gd_world.proofs.Networks.{network_is, hubs_are, history_there}
 
 -- ---- the rows of a slice

@@ -1,5 +1,5 @@
 -- A world stands for one turn more.
-use Rattle.std.proofs.Common.{◌≡◌, ◌⊎◌, ℕ, ◌+◌, ◌<◌, ◌==◌, ℤ, List, [], ◌∷◌, ◌++◌, length, set, Bool, true, false, ◌&&◌, cond, Option, Some, None, Ok, Err, refl, ap, sym, ◌∙◌, subst, arith, inl, inr, append-nil, slice_get, length-set}
+use Rattle.std.proofs.Common.{◌≡◌, ◌⊎◌, ℕ, ◌==◌, ℤ, List, [], ◌∷◌, ◌++◌, length, set, Bool, true, false, ◌&&◌, cond, Option, Some, refl, ap, sym, ◌∙◌, subst, inl, inr, append-nil, slice_get, length-set}
 use Rattle.std.specs.Ordering.{int_eq}
 use Rattle.std.proofs.lemmas.Bool.Decides.{eqb_tells, Decides-int_eq}
 use Rattle.ic_base.specs.declared.keys.ConnEnd.{ConnEnd}
@@ -9,7 +9,6 @@ use Rattle.ic_law.proofs.Lists.{flat_map-push}
 use Rattle.pl_runs.specs.Runs.{Course}
 use Rattle.pl_runs.specs.Logs.{log_of, ends_of}
 use Rattle.pl_runs.specs.Distributed.{Query, Courses, worker_at}
-use Rattle.pl_runs.specs.Apart.{of_slice}
 use Rattle.pl_runs.proofs.Apart.{slices_are_apart}
 use Rattle.ic_port.specs.Noding.{Noding}
 use Rattle.ic_desk.specs.Own.{own_ends}
@@ -23,14 +22,14 @@ use Rattle.gd_world.specs.declared.step.Step.{Step}
 use Rattle.gd_world.specs.declared.step.Step.TheVariants as step
 use Rattle.gd_world.specs.declared.seat.Seat.{Seat}
 use Rattle.gd_world.specs.declared.world.World.{World}
-use Rattle.gd_world.specs.Doings.{Answer, Doing, at_of}
-use Rattle.gd_world.specs.Events.{Event, IsStep, turns, node_in, segment_at, entries_in, entry_at, history_in, event_of}
+use Rattle.gd_world.specs.Doings.{Answer, at_of}
+use Rattle.gd_world.specs.Events.{Event, turns, node_in, segment_at, entries_in, entry_at, history_in, event_of}
 use Rattle.gd_world.specs.Sessions.{Sessional, Recalls}
 use Rattle.gd_world.specs.Turns.{Taken, taken_in, turns_of, logs_turn, logged_by}
 use Rattle.gd_world.specs.Workers.{AreSeats, WorkerStands, worker_in, ends_in}
-use Rattle.gd_world.specs.Worlds.{Account, all_events, with_event, all_ends, running, IsReached, Stands}
+use Rattle.gd_world.specs.Worlds.{Account, all_events, running, IsReached, Stands}
 use Rattle.gd_world.specs.Steps.{Goes, TurnsAt}
-use Rattle.gd_world.specs.Inside.{Enters, Stays, Sat, TakesTurn, MaySit, marked, added, place_in}
+use Rattle.gd_world.specs.Inside.{Enters, Stays, Sat, TakesTurn, MaySit, marked, place_in}
 use Rattle.gd_world.proofs.Places.{get_set, same_some, eqb_same, int_same}
 use Rattle.gd_world.proofs.Recalling.{entry_here, entry_there, place_same, recalls_on, session_on}
 use Rattle.gd_world.proofs.Marking.{stays_reached, marks_same, left_on}

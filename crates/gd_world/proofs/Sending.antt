@@ -1,15 +1,13 @@
 -- What was sent, read from the nodes and the past, is what the events emitted.
-use Rattle.std.proofs.Common.{◌≡◌, ℕ, zero, suc, ◌+◌, ◌-◌, ◌<◌, ◌≤◌, List, [], ◌∷◌, ◌++◌, length, map, Option, Some, None, refl, ap, sym, ◌∙◌, subst, inl, inr, arith, append_assoc, append-nil, slice_get, length-append}
+use Rattle.std.proofs.Common.{◌≡◌, ◌-◌, List, [], ◌∷◌, ◌++◌, length, map, Option, Some, None, refl, ap, sym, ◌∙◌, subst, inl, inr, arith, append_assoc, append-nil, slice_get, length-append}
 use Rattle.std.specs.List.{Contains, flat_map}
 use Rattle.std.proofs.lemmas.Option.{slice_get_cases}
 use Rattle.std.proofs.lemmas.List.{map_push}
-use Rattle.ic_base.specs.declared.datagram.Datagram.{Datagram}
 use Rattle.ic_law.specs.declared.history.Entry.{Entry}
 use Rattle.ic_law.specs.History.{emits}
-use Rattle.ic_law.specs.Streams.{node_of}
 use Rattle.ic_law.proofs.Lists.{Contains-middle}
 use Rattle.ic_port.specs.Noding.{Noding, emitted_with}
-use Rattle.gd_world.specs.Doings.{Doing, at_of}
+use Rattle.gd_world.specs.Doings.{at_of}
 use Rattle.gd_world.specs.Events.{Event, Running, IsStep, PlayBehind, begins_it, turns, delivers, ticks, leaves_it, did_in, node_in, entries_in, emitted_in, history_in, sent_in, place_behind}
 use Rattle.gd_world.specs.Sessions.{Sessional, Recalls, entry_of, entry_by, last_entry, entry_with, emitted_by, sent_by}
 use Rattle.gd_world.proofs.Networks.{history_split}

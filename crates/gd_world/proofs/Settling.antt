@@ -1,16 +1,13 @@
 -- A worker stands for one turn more, and the others for theirs.
-use Rattle.std.proofs.Common.{◌≡◌, ◌⊎◌, ℕ, suc, ◌+◌, ◌<◌, ◌≤◌, ◌==◌, ℤ, List, [], ◌∷◌, ◌++◌, length, map, set, Bool, true, false, ◌&&◌, cond, Option, Some, None, Ok, Err, refl, ap, sym, ◌∙◌, subst, arith, inl, inr, append_assoc, append-nil, slice_get, length-append, length-set}
+use Rattle.std.proofs.Common.{◌≡◌, ◌⊎◌, ℕ, ◌+◌, ◌≤◌, List, [], ◌∷◌, ◌++◌, length, true, false, cond, Option, Some, None, Ok, Err, refl, ap, sym, ◌∙◌, subst, arith, inl, inr, append-nil, length-append}
 use Rattle.std.specs.Prelude.{nat_lt}
-use Rattle.std.specs.List.{AllByRecursion, flat_map}
-use Rattle.std.specs.Ordering.{int_eq}
-use Rattle.std.proofs.lemmas.Bool.Decides.{eqb_tells, Decides-int_eq}
+use Rattle.std.specs.List.{AllByRecursion}
 use Rattle.ic_base.specs.declared.keys.ConnEnd.{ConnEnd}
 use Rattle.ic_base.specs.declared.port.PortNo.TheVariants as port
 use Rattle.ic_base.specs.declared.port.PortEntry.{PortEntry}
 use Rattle.ic_law.specs.declared.history.Entry.{Entry}
 use Rattle.ic_law.specs.History.{arrives, arrived_of}
 use Rattle.ic_law.specs.Queries.{leaves, left_of}
-use Rattle.ic_law.specs.Streams.{node_of}
 use Rattle.ic_law.proofs.Lists.{flat_map-push, map-append}
 use Rattle.ic_hub.specs.Calls.{SamePlace}
 use Rattle.pl_runs.specs.Steps.{Step as Call, calls_of}
@@ -30,10 +27,10 @@ use Rattle.ex_slice.specs.declared.stage.Stage.TheVariants as stages
 use Rattle.ex_slice.specs.declared.stage.SliceNo.{SliceNo}
 use Rattle.ex_slice.specs.declared.stage.SliceNo.TheVariants as why
 use Rattle.ex_slice.specs.declared.stage.Turned.TheVariants.{Moved, Waiting, Done}
-use Rattle.ex_slice.specs.Working.{Working, Works, Listening, Reaching, SameWay}
+use Rattle.ex_slice.specs.Working.{Working, Listening, Reaching, SameWay}
 use Rattle.ex_slice.specs.Turning.{is_going, StandsAt, LeavesTurn, after, refused_after}
 use Rattle.gd_world.specs.Doings.{Answer}
-use Rattle.gd_world.specs.Events.{entries_in, IsCall, IsOfTurn}
+use Rattle.gd_world.specs.Events.{entries_in, IsOfTurn}
 use Rattle.gd_world.specs.Turns.{Taken, logs_turn, logged_by, last_answer, StandsBy, Answers, AnswersTurn}
 use Rattle.gd_world.specs.Workers.{IsLost, Keeps, keeps, lost, WorkerStands}
 use Rattle.gd_world.specs.Inside.{Sat, added, place_in}

@@ -1,5 +1,5 @@
 -- A world stands for one event more that is no turn.
-use Rattle.std.proofs.Common.{◌≡◌, ◌⊎◌, ℕ, ◌+◌, ◌<◌, ◌==◌, ◌&&◌, ℤ, List, [], ◌∷◌, ◌++◌, length, set, Bool, true, false, cond, Option, Some, None, refl, ap, sym, ◌∙◌, subst, arith, inl, inr, append_assoc, append-nil, slice_get, length-set}
+use Rattle.std.proofs.Common.{◌≡◌, ℕ, ◌&&◌, ℤ, List, [], ◌∷◌, ◌++◌, length, true, false, cond, Option, None, refl, ap, sym, ◌∙◌, subst, inl, inr, append_assoc, append-nil, slice_get, length-set}
 use Rattle.std.proofs.lemmas.Bool.Decides.{eqb_tells}
 use Rattle.ic_base.specs.declared.keys.ConnEnd.{ConnEnd}
 use Rattle.ic_law.specs.declared.history.Entry.{Entry}
@@ -12,17 +12,15 @@ use Rattle.pl_runs.specs.Logs.{log_of, logs}
 use Rattle.pl_runs.specs.Distributed.{Query, Courses}
 use Rattle.ic_port.specs.Noding.{Noding}
 use Rattle.ic_desk.specs.Laws.{IsDrivers}
-use Rattle.ex_slice.specs.declared.slice.Slice.{Slice}
 use Rattle.ex_slice.specs.Slicing.{working}
 use Rattle.gd_world.specs.declared.step.Step.{Step}
-use Rattle.gd_world.specs.declared.seat.Seat.{Seat}
 use Rattle.gd_world.specs.declared.world.World.{World}
 use Rattle.gd_world.specs.Doings.{at_of}
-use Rattle.gd_world.specs.Events.{Event, Running, IsStep, node_in, segment_at, entries_in, entry_at, history_in, event_of, asked, begun_with, left_with}
-use Rattle.gd_world.specs.Sessions.{Sessional, Recalls, IsSessionOf}
-use Rattle.gd_world.specs.Turns.{Taken, is_of, taken_with, taken_in, turns_of, logged_by}
+use Rattle.gd_world.specs.Events.{Event, IsStep, node_in, segment_at, entry_at, history_in, event_of, asked, begun_with, left_with}
+use Rattle.gd_world.specs.Sessions.{Recalls}
+use Rattle.gd_world.specs.Turns.{is_of, taken_with, taken_in, turns_of, logged_by}
 use Rattle.gd_world.specs.Workers.{AreSeats, WorkerStands, worker_in, ends_in}
-use Rattle.gd_world.specs.Worlds.{Account, all_events, with_event, running, IsReached, Stands, StandsAt, LogsItsTurns}
+use Rattle.gd_world.specs.Worlds.{Account, all_events, with_event, running, IsReached, Stands}
 use Rattle.gd_world.specs.Steps.{Goes, Steps}
 use Rattle.gd_world.specs.Inside.{Enters, EntersAsked, place_in}
 use Rattle.gd_world.proofs.Places.{get_set}

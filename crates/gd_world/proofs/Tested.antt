@@ -1,7 +1,6 @@
 -- What the tests ask for.
-use Rattle.std.proofs.Common.{◌≡◌, ℕ, ◌+◌, ◌<◌, ℤ, List, [], Some, Ok, Err, Result, IfOk, refl, ap, sym, ◌∙◌, subst, arith, slice_get}
+use Rattle.std.proofs.Common.{◌<◌, List, [], Ok, Err, Result, IfOk, refl, sym, subst, arith}
 use Rattle.std.specs.declared.alloc.AllocError.{AllocError}
-use Rattle.ic_law.specs.Streams.{node_of}
 use Rattle.pl_tree.specs.Trees.{tree_in}
 use Rattle.pl_plan.specs.declared.sound.Judged.{Judged}
 use Rattle.pl_ops.specs.declared.loaded.Spread.{Spread}

@@ -1,5 +1,5 @@
 -- A vector in which an element is written over itself.
-use Rattle.std.proofs.Common.{◌≡◌, ℕ, List, length, set, Some, Ok, Err, Result, OnErr, Vec, refl, ap, sym, ◌∙◌, subst, slice_get}
+use Rattle.std.proofs.Common.{◌≡◌, ℕ, List, length, set, Some, Ok, Err, Result, OnErr, Vec, ap, sym, ◌∙◌, subst, slice_get}
 use Rattle.std.specs.Vec.{with_item}
 use lib.ListN.{length-set}
 use native.Mathlib.Nat.{ℕ_set}

@@ -1,5 +1,5 @@
 -- What the parts of a step say of a node and of a session.
-use Rattle.std.specs.Prelude.{◌≡◌, ◌≢◌, ◌⊎◌, ℕ, ◌+◌, ◌<◌, ◌≤◌, nat_lt, ℤ, Bool, true, false, if◌then◌else◌, List, [], ◌∷◌, ◌++◌, length, Option, Some, None, Result, Ok, Err, slice_get, slice_set}
+use Rattle.std.specs.Prelude.{◌≡◌, ◌≢◌, ◌⊎◌, ℕ, ◌+◌, ◌<◌, ◌≤◌, nat_lt, ℤ, Bool, true, false, if◌then◌else◌, List, [], ◌∷◌, ◌++◌, length, Option, Some, None, Ok, Err, slice_get, slice_set}
 use Rattle.ic_base.specs.declared.keys.ConnEnd.{ConnEnd}
 use Rattle.ic_base.specs.declared.settings.Settings.{Settings}
 use Rattle.ic_law.specs.declared.history.Entry.{Entry}
@@ -33,7 +33,7 @@ use Rattle.gd_world.specs.declared.seat.Seat.{Seat}
 use Rattle.gd_world.specs.declared.step.Step.{Step}
 use Rattle.gd_world.specs.declared.step.Step.TheVariants as step
 use Rattle.gd_world.specs.declared.world.World.{World}
-use Rattle.gd_world.specs.Doings.{Answer, Doing}
+use Rattle.gd_world.specs.Doings.{Answer}
 use Rattle.gd_world.specs.Events.{entries_in, asked, segment_at}
 use Rattle.gd_world.specs.Sessions.{Sessional}
 

@@ -1,5 +1,5 @@
 -- What follows of every world.
-use Rattle.std.specs.Prelude.{◌≡◌, ℕ, ℤ, List, [], Some, slice_get}
+use Rattle.std.specs.Prelude.{◌≡◌, ℕ, ℤ, List, Some, slice_get}
 use Rattle.ic_base.specs.declared.settings.Settings.{Settings}
 use Rattle.ic_law.specs.Points.{place_at}
 use Rattle.ic_law.specs.Asking.{AreEnds}

@@ -1,4 +1,4 @@
-use Rattle.std.proofs.Common.{◌≡◌, ◌-◌, ◌++◌, map, ap, ◌∙◌, refl}
+use Rattle.std.proofs.Common.{◌-◌, ◌++◌, map, ap, ◌∙◌, refl}
 use Rattle.pl_tree.specs.Trees.{tree_in}
 use Rattle.gd_world.specs.Workers.{seat_of}
 use Rattle.gd_world.proofs.Seats.{gang_more}

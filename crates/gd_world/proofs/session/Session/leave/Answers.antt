@@ -1,9 +1,8 @@
-use Rattle.std.proofs.Common.{◌≡◌, List, ◌++◌, ◌∷◌, [], set, length, Some, None, ap, sym, ◌∙◌, refl, subst, arith, slice_get}
+use Rattle.std.proofs.Common.{◌≡◌, ◌++◌, ◌∷◌, [], set, length, Some, None, ap, sym, ◌∙◌, arith, slice_get}
 use Rattle.std.proofs.lemmas.Option.{slice_get-get_or, slice_get_within}
 use Rattle.ic_law.specs.Streams.{node_of}
 use Rattle.ic_port.specs.Noding.{Noding}
 use Rattle.gd_world.specs.declared.step.Step.TheVariants as step
-use Rattle.gd_world.specs.Doings.{Doing}
 use Rattle.gd_world.specs.Sessions.{Sessional}
 use Rattle.gd_world.proofs.Asked.{left_so}
 use Rattle.gd_world.proofs.Places.{same_some}

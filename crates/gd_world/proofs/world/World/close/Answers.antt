@@ -1,4 +1,3 @@
-use Rattle.std.proofs.Common.{refl}
 use Rattle.gd_world.proofs.Marking.{upto_is}
 use Rattle.gd_world.proofs.world.World.close.Goals as goal
 

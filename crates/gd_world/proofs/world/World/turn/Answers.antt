@@ -1,7 +1,6 @@
-use Rattle.std.proofs.Common.{refl, None, subst}
+use Rattle.std.proofs.Common.{refl, subst}
 use Rattle.gd_world.specs.Steps.{TurnsAt}
 use Rattle.gd_world.proofs.Idling.{turn_none, turn_idles}
-use Rattle.gd_world.proofs.Played.{turn_is_step}
 use Rattle.gd_world.proofs.world.World.turn.Goals as goal
 
 pub returns-in_default-clause-ok : goal.returns-in_default-clause-ok
