@@ -16,5 +16,6 @@ pub mod Sending
 pub mod Running
 pub mod Adding
 pub mod Idling
+pub mod Applying
 pub mod Played
 pub mod Tested

@@ -73,6 +73,18 @@ all_both : {X : Type 0} (P : X → Type 0) (xs ys : List X) → AllByRecursion P
 all_both P [] ys h i = i
 all_both P (x ∷ xs) ys h i = (h.0, all_both P xs ys h.1 i)
 
+-- a seat is of a slice below the number, and of a member of its gang
+pub seats_within : (s : List Schema) (segments : ℕ) (tree : Tree) (n : ℕ) (seat : Seat) → In seat (seats_below s segments tree n) → (seat.slice < n) × In seat.at (gang_of s segments tree seat.slice)
+seats_within s segments tree zero seat i = absurd i
+seats_within s segments tree (suc n) seat i = elim (In-cases seat (map (seat_of n) (gang_of s segments tree n)) (seats_below s segments tree n) i) [
+  | inl j ↦
+      let w = In-from_map (seat_of n) seat (gang_of s segments tree n) j in
+      let slice : seat.slice ≡ n = ap (λ (z : Seat). z.slice) w.2 in
+      let at : seat.at ≡ w.0 = ap (λ (z : Seat). z.at) w.2 in
+      (omega (arith, slice), subst (λ m. In seat.at (gang_of s segments tree m)) (sym slice) (subst (λ z. In z (gang_of s segments tree n)) (sym at) w.1))
+  | inr j ↦ let w = seats_within s segments tree n seat j in (omega (arith, w.0), w.1)
+]
+
 module _ (s : List Schema) (segments : ℕ) (least : 1 ≤ segments) where
   abbrev Sends : Motion → Type 0
   Sends m = IsGang segments m.senders
@@ -105,17 +117,6 @@ module _ (s : List Schema) (segments : ℕ) (least : 1 ≤ segments) where
 
   -- ---- seats
 
-  seats_within : (tree : Tree) (n : ℕ) (seat : Seat) → In seat (seats_below s segments tree n) → (seat.slice < n) × In seat.at (gang_of s segments tree seat.slice)
-  seats_within tree zero seat i = absurd i
-  seats_within tree (suc n) seat i = elim (In-cases seat (map (seat_of n) (gang_of s segments tree n)) (seats_below s segments tree n) i) [
-    | inl j ↦
-        let w = In-from_map (seat_of n) seat (gang_of s segments tree n) j in
-        let slice : seat.slice ≡ n = ap (λ (z : Seat). z.slice) w.2 in
-        let at : seat.at ≡ w.0 = ap (λ (z : Seat). z.at) w.2 in
-        (omega (arith, slice), subst (λ m. In seat.at (gang_of s segments tree m)) (sym slice) (subst (λ z. In z (gang_of s segments tree n)) (sym at) w.1))
-    | inr j ↦ let w = seats_within tree n seat j in (omega (arith, w.0), w.1)
-  ]
-
   seats_once : (tree : Tree) (n : ℕ) → NoTwice (seats_below s segments tree n)
   seats_once tree zero = tt
   seats_once tree (suc n) =
@@ -123,7 +124,7 @@ module _ (s : List Schema) (segments : ℕ) (least : 1 ≤ segments) where
       (λ z i j.
       let w = In-from_map (seat_of n) z (gang_of s segments tree n) i in
       let slice : z.slice ≡ n = ap (λ (y : Seat). y.slice) w.2 in
-      omega (arith, slice, (seats_within tree n z j).0))
+      omega (arith, slice, (seats_within s segments tree n z j).0))
     where
       once_map : (gang : List ℤ) → NoTwice gang → NoTwice (map (seat_of n) gang)
       once_map [] once = tt
@@ -165,8 +166,8 @@ are_seats q least =
       all = λ slice at works.
           let i = contains_in (gang_of s n q.tree slice) at works in
           in_get (seats_in q) (seat_of slice at) (seat_there s n q.tree slice at (slices_in q.tree) (slice_there s n q.tree slice at i) i);
-      within = λ k seat there. let w = seats_within s n least q.tree (slices_in q.tree) seat (get_in (seats_in q) k seat there) in ((gang_is s n least q.tree seat.slice).within seat.at w.1).0;
-      at = λ k seat there. let w = seats_within s n least q.tree (slices_in q.tree) seat (get_in (seats_in q) k seat there) in ((gang_is s n least q.tree seat.slice).within seat.at w.1).1;
+      within = λ k seat there. let w = seats_within s n q.tree (slices_in q.tree) seat (get_in (seats_in q) k seat there) in ((gang_is s n least q.tree seat.slice).within seat.at w.1).0;
+      at = λ k seat there. let w = seats_within s n q.tree (slices_in q.tree) seat (get_in (seats_in q) k seat there) in ((gang_is s n least q.tree seat.slice).within seat.at w.1).1;
       once = λ k l seat here there. get_once (seats_in q) k l seat (seats_once s n least q.tree (slices_in q.tree)) here there;
     }
 
@@ -174,7 +175,7 @@ are_seats q least =
 pub seat_works : (s : List Schema) (segments : ℕ) (least : 1 ≤ segments) (tree : Tree) (k : ℕ) (seat : Seat) → slice_get (seats_of s segments tree) k ≡ Some seat
     → (seat.slice < slices_in tree) × Contains (gang_of s segments tree seat.slice) seat.at
 seat_works s segments least tree k seat there =
-    let w = seats_within s segments least tree (slices_in tree) seat (get_in (seats_of s segments tree) k seat there) in (w.0, in_contains (gang_of s segments tree seat.slice) seat.at w.1)
+    let w = seats_within s segments tree (slices_in tree) seat (get_in (seats_of s segments tree) k seat there) in (w.0, in_contains (gang_of s segments tree seat.slice) seat.at w.1)
 
 -- ---- seats and slices, made one behind the other
 

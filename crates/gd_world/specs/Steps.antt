@@ -52,6 +52,11 @@ Idles s w = (q : Query) (x : Account) → Stands q x w → IsIdle q x s
 
 -- ---- any steps
 
+-- a step is done only if it applies
+abbrev pub Applies : Step → Bool → World → Type 0
+Applies s true w = (q : Query) (x : Account) → Stands q x w → IsIdle q x s → ⊥
+Applies s false w = Unit {0}
+
 -- a step that applies adds its event, and one that doesn't changes nothing
 abbrev pub Steps : Step → Bool → World → World → Type 0
 Steps s true a b = (e : Event) × (e.did.step ≡ s) × Adds e a b
@@ -71,6 +76,11 @@ IdlesAt k w = (q : Query) (x : Account) (seat : Seat) → Stands q x w → slice
 abbrev pub TurnsAt : ℕ → Option Answer → World → World → Type 0
 TurnsAt k None a b = IdlesAt k a × (b ≡ a)
 TurnsAt k (Some answer) a b = (seat : Seat) × SitsAt k seat a × (e : Event) × (e.did.step ≡ step.Turn seat.slice seat.at) × (e.did.turned ≡ Some answer) × Adds e a b
+
+-- the worker took a turn only if it can take one
+abbrev pub AppliesAt : ℕ → Option Answer → World → Type 0
+AppliesAt k None w = Unit {0}
+AppliesAt k (Some answer) w = (q : Query) (x : Account) (seat : Seat) → Stands q x w → slice_get (seats_in q) k ≡ Some seat → CannotTurn q x seat → ⊥
 
 -- ---- a datagram in hand
 

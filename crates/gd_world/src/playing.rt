@@ -1,7 +1,7 @@
 // Any steps of a world.
 ghost use Rattle.std.specs.Prelude.{◌≡◌, IfOk, OnOk, OnErr};
 ghost use Rattle.gd_world.specs.Worlds.{IsWorld};
-ghost use Rattle.gd_world.specs.Steps.{Steps, Plays, PlaysFront};
+ghost use Rattle.gd_world.specs.Steps.{Steps, Applies, Plays, PlaysFront};
 
 use crate::step::Step;
 use crate::world::World;
@@ -16,6 +16,7 @@ impl World<'_> {
     pub fn step(&mut self, alloc: Global, step: Step) -> Result<bool, AllocError>
         requires { IsWorld self.old }
         ensures ok { IfOk result (λ applies. Steps step applies self.old self.new) }
+        ensures may { IfOk result (λ applies. Applies step applies self.old) }
         ensures err { OnErr result (self.new ≡ self.old) }
         ensures world { IsWorld self.new }
     {

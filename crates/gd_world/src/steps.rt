@@ -4,7 +4,7 @@ ghost use Rattle.ic_law.specs.Streams.{node_of};
 ghost use Rattle.gd_world.specs.Events.{segment_at};
 ghost use Rattle.gd_world.specs.declared.step.Step.TheVariants as step;
 ghost use Rattle.gd_world.specs.Worlds.{IsWorld};
-ghost use Rattle.gd_world.specs.Steps.{Steps, WasSent};
+ghost use Rattle.gd_world.specs.Steps.{Steps, Applies, WasSent};
 ghost use Rattle.gd_world.specs.Inside.{MayBegin, InQuery, MayLeave, marked, EndsOf};
 
 use crate::session::place_of;
@@ -65,6 +65,7 @@ impl World<'_> {
     pub(crate) fn begin(&mut self, alloc: Global, at: SegId) -> Result<bool, AllocError>
         requires { IsWorld self.old }
         ensures ok { IfOk result (λ applies. Steps (step.Begin at) applies self.old self.new) }
+        ensures may { IfOk result (λ applies. Applies (step.Begin at) applies self.old) }
         ensures err { OnErr result (self.new ≡ self.old) }
     {
         if !self.may_begin(at) {
@@ -83,6 +84,7 @@ impl World<'_> {
     ) -> Result<bool, AllocError>
         requires { IsWorld self.old }
         ensures ok { IfOk result (λ applies. Steps (step.Deliver number to) applies self.old self.new) }
+        ensures may { IfOk result (λ applies. Applies (step.Deliver number to) applies self.old) }
         ensures err { OnErr result (self.new ≡ self.old) }
     {
         if !self.has(to) {
@@ -120,6 +122,7 @@ impl World<'_> {
     pub(crate) fn tick(&mut self, alloc: Global, at: SegId) -> Result<bool, AllocError>
         requires { IsWorld self.old }
         ensures ok { IfOk result (λ applies. Steps (step.Tick at) applies self.old self.new) }
+        ensures may { IfOk result (λ applies. Applies (step.Tick at) applies self.old) }
         ensures err { OnErr result (self.new ≡ self.old) }
     {
         if !self.has(at) {
@@ -132,6 +135,7 @@ impl World<'_> {
     pub(crate) fn leave(&mut self, at: SegId) -> Result<bool, AllocError>
         requires { IsWorld self.old }
         ensures ok { IfOk result (λ applies. Steps (step.Leave at) applies self.old self.new) }
+        ensures may { IfOk result (λ applies. Applies (step.Leave at) applies self.old) }
         ensures err { OnErr result (self.new ≡ self.old) }
     {
         if !self.may_leave(at) {

@@ -4,7 +4,7 @@ ghost use Rattle.ic_law.specs.Streams.{node_of};
 ghost use Rattle.ex_slice.specs.Slicing.{working};
 ghost use Rattle.gd_world.specs.declared.step.Step.TheVariants as step;
 ghost use Rattle.gd_world.specs.Worlds.{IsWorld};
-ghost use Rattle.gd_world.specs.Steps.{Steps, TurnsAt};
+ghost use Rattle.gd_world.specs.Steps.{Steps, Applies, TurnsAt, AppliesAt};
 ghost use Rattle.gd_world.specs.Inside.{MaySit, MayTurn, marked};
 
 use crate::seat::Seat;
@@ -54,6 +54,7 @@ impl World<'_> {
     ) -> Result<Option<Result<Turned, SliceNo>>, AllocError>
         requires { IsWorld self.old }
         ensures ok { IfOk result (λ told. TurnsAt k told self.old self.new) }
+        ensures may { IfOk result (λ told. AppliesAt k told self.old) }
         ensures err { OnErr result (self.new ≡ self.old) }
         ensures world { IsWorld self.new }
     {
@@ -73,6 +74,7 @@ impl World<'_> {
     pub(crate) fn turn(&mut self, alloc: Global, slice: u32, at: SegId) -> Result<bool, AllocError>
         requires { IsWorld self.old }
         ensures ok { IfOk result (λ applies. Steps (step.Turn slice at) applies self.old self.new) }
+        ensures may { IfOk result (λ applies. Applies (step.Turn slice at) applies self.old) }
         ensures err { OnErr result (self.new ≡ self.old) }
         ensures world { IsWorld self.new }
     {

@@ -3,6 +3,7 @@ use Rattle.std.proofs.lemmas.Option.{slice_get_within}
 use Rattle.ic_law.specs.Streams.{node_of}
 use Rattle.gd_world.proofs.Adding.{may_begin_it, begin_adds}
 use Rattle.gd_world.proofs.Idling.{begin_idle}
+use Rattle.gd_world.proofs.Applying.{begin_applies}
 use Rattle.gd_world.proofs.world.World.begin.Goals as goal
 
 pub returns-then-not-may_begin-clause-ok : goal.returns-then-not-may_begin-clause-ok
@@ -19,3 +20,6 @@ pub returns-clause-ok : goal.returns-clause-ok
 returns-clause-ok c =
     let may = c.if-not-may_begin.ensures.may in
     begin_adds c.args.at c.in_ok-ends.ends.items may.0 c.args.self.now _ may.1 may.2 c.in_ok-ends.ensures (record { plan = refl; query = refl; seats = refl }) refl refl c.in_ok-begin.ensures.ok
+
+pub returns-clause-may : goal.returns-clause-may
+returns-clause-may c = let may = c.if-not-may_begin.ensures.may in begin_applies c.args.at c.args.self.now may.0 c.may_begin.ensures.back may.1 may.2

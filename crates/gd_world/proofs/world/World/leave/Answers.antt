@@ -3,6 +3,7 @@ use Rattle.std.proofs.lemmas.Option.{slice_get_within}
 use Rattle.ic_law.specs.Streams.{node_of}
 use Rattle.gd_world.proofs.Adding.{leave_adds}
 use Rattle.gd_world.proofs.Idling.{leave_idle}
+use Rattle.gd_world.proofs.Applying.{leave_applies}
 use Rattle.gd_world.proofs.world.World.leave.Goals as goal
 
 pub returns-then-not-may_leave-clause-ok : goal.returns-then-not-may_leave-clause-ok
@@ -18,3 +19,6 @@ returns-clause-ok c =
     let may = c.if-not-may_leave.ensures.may in
     leave_adds c.args.at may.0 c.in_ok-gone.gone c.args.self.now _ may.1 may.2.0 (record { plan = refl; query = refl; seats = refl }) refl
     (ap (λ i. set c.args.self.now.left.items i c.in_ok-gone.gone) c.place_of.ensures.place) may.2.1 c.in_ok-gone.ensures.ok
+
+pub returns-clause-may : goal.returns-clause-may
+returns-clause-may c = let may = c.if-not-may_leave.ensures.may in leave_applies c.args.at c.args.self.now may.0 c.may_leave.ensures.back may.1 may.2.0 may.2.1

@@ -1,5 +1,6 @@
 use Rattle.std.proofs.Common.{refl, subst}
-use Rattle.gd_world.specs.Steps.{TurnsAt}
+use Rattle.gd_world.specs.Steps.{TurnsAt, AppliesAt}
+use Rattle.gd_world.proofs.Applying.{step_applies}
 use Rattle.gd_world.proofs.Idling.{turn_none, turn_idles}
 use Rattle.gd_world.proofs.world.World.turn.Goals as goal
 
@@ -10,3 +11,7 @@ pub returns-in-Ok-None-clause-ok : goal.returns-in-Ok-None-clause-ok
 returns-in-Ok-None-clause-ok c =
     let told = subst (λ o. TurnsAt c.in-Some.k o c.args.self.now c.turn_at.new.self) c.in-Ok-None.field-0-is c.in-Ok-None.ensures.ok in
     (turn_idles c.in-Some.k c.args.slice c.args.at c.args.self.now c.in-Some.ensures told.0, told.1)
+
+pub returns-in-Ok-Some-clause-may : goal.returns-in-Ok-Some-clause-may
+returns-in-Ok-Some-clause-may c =
+    step_applies c.in-Some.k c.args.slice c.args.at c.in-Ok-Some.field-0-0 c.args.self.now c.in-Some.ensures (subst (λ o. AppliesAt c.in-Some.k o c.args.self.now) c.in-Ok-Some.field-0-is c.in-Ok-Some.ensures.may)

@@ -10,6 +10,7 @@ use Rattle.gd_world.proofs.Idling.{turn_idle}
 use Rattle.gd_world.proofs.Seating.{turn_adds}
 use Rattle.gd_world.proofs.Meeting.{can_sit}
 use Rattle.gd_world.proofs.Played.{as_before, turned_on}
+use Rattle.gd_world.proofs.Applying.{turn_applies}
 use Rattle.gd_world.proofs.world.World.turn_at.Goals as goal
 
 pub returns-then-not-may_turn-clause-ok : goal.returns-then-not-may_turn-clause-ok
@@ -51,3 +52,8 @@ returns-clause-ok c =
 
 pub returns-clause-world : goal.returns-clause-world
 returns-clause-world c = turned_on c.args.k (Some c.in_ok-answer.answer) c.args.self.now _ c.requires (returns-clause-ok c)
+
+pub returns-clause-may : goal.returns-clause-may
+returns-clause-may c =
+    let may = c.if-not-may_turn.ensures in
+    turn_applies c.args.k c.in-Some.seat.now c.in_ok-answer.answer c.args.self.now may.0 may.1 c.in-Some.ensures may.2 may.3 may.4
