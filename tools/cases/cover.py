@@ -92,13 +92,13 @@ def of_answer(case: Case, document: dict, status: int, text: bytes) -> Counter[s
     return found
 
 
-def table_of(found: Counter[str]) -> str:
+def table_of(found: Counter[str], least: dict[str, int] = LEAST) -> str:
     """The counts in lines of three, each with the least that is wanted."""
-    parts = [f"{name}: {found[name]} ({least})" for name, least in LEAST.items()]
+    parts = [f"{name}: {found[name]} ({wanted})" for name, wanted in least.items()]
     width = max(map(len, parts)) + 2
     rows = [parts[i : i + 3] for i in range(0, len(parts), 3)]
     return "\n".join("".join(part.ljust(width) for part in row).rstrip() for row in rows)
 
 
-def lacking(found: Counter[str]) -> list[str]:
-    return [f"{name}: {found[name]}, and {least} are wanted" for name, least in LEAST.items() if found[name] < least]
+def lacking(found: Counter[str], least: dict[str, int] = LEAST) -> list[str]:
+    return [f"{name}: {found[name]}, and {wanted} are wanted" for name, wanted in least.items() if found[name] < wanted]

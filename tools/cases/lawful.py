@@ -11,6 +11,8 @@ from rules.meaning import Meaning, TooLarge, bag, meaning_of
 from rules.session import Answered, Tally
 from rules.slices import cut
 
+from . import cover
+
 LOSING = ("loss=", "drop=", "mute=")
 
 
@@ -95,3 +97,26 @@ def covered(plan: dict, answered: Answered) -> Counter[str]:
     found["more than 3 motions"] += len({it.motion for it in answered.tallies}) > 3
     found["resent"] += any(it.resent for it in answered.tallies)
     return found
+
+
+LEAST = {  # of 800 cases
+    **{f"status {status}": least for status, least in ((0, 400), (8, 30), (9, 10))},
+    **{kind: 250 for kind in ("scan", "filter", "project", "sort", "join", "agg single", "agg partial", "agg final")},
+    **{kind: 250 for kind in ("gather", "gather with an order", "redistribute", "broadcast")},
+    "limit": 150,
+    "rows": 400,
+    "no rows": 200,
+    "more than 100 rows": 3,
+    "more than 5 nodes": 400,
+    "more than 3 motions": 100,
+    "a stopped connection": 50,
+    "resent": 100,
+}
+
+
+def table_of(found: Counter[str]) -> str:
+    return cover.table_of(found, LEAST)
+
+
+def lacking(found: Counter[str]) -> list[str]:
+    return cover.lacking(found, LEAST)

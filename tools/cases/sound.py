@@ -6,10 +6,13 @@ from typing import Callable
 
 from rules import plans
 from rules.documents import COMPARISONS
+from rules.meaning import TooLarge, meaning_of
 from rules.plans import ENTRY, REPLICATED, Node, Seen
+from rules.slices import cut
 
 from .tables import TEXTS, any_document, drop_word
 
+MOST = 600  # rows of a node
 TOP = Node({"op": "gather"}, -1, [], [])  # so that a plan below it isn't judged as a root
 
 
@@ -185,6 +188,17 @@ class Maker:
         return {"op": "join", "left": plan, "right": other, "on": self.rng.sample(pairs, min(len(pairs), 1))}
 
 
+def is_large(plan: dict, document: dict) -> bool:
+    """Whether a node has so many rows that the plan isn't worth its time."""
+    segments = document["segments"]
+    meaning = meaning_of(cut(*plans.seen_of(plan, document), segments), plans.tables_of(document), lambda scan, at: [], MOST)
+    try:
+        meaning.whole(meaning.plan.root)
+    except TooLarge:
+        return True
+    return False
+
+
 def plan_of(rng: random.Random, document: dict) -> dict:
     """A sound plan."""
     maker = Maker(rng, document)
@@ -193,7 +207,7 @@ def plan_of(rng: random.Random, document: dict) -> dict:
             plan = maker.topped(rng.choice([0, 1, 1, 2, 2, 3, 4]))
         except LookupError:
             continue
-        if plans.size_of(plan) < 40 and plans.first_broken(plan, document) is None:
+        if plans.size_of(plan) < 40 and plans.first_broken(plan, document) is None and not is_large(plan, document):
             return plan
 
 
@@ -226,3 +240,6 @@ def planned(rng: random.Random) -> tuple[dict, list[str]]:
     return document, fate_words(rng)
 
 
+def case_of(seed: int, number: int) -> tuple[dict, list[str]]:
+    """The case of a number, the same for the same seed and number."""
+    return planned(random.Random(seed * 1000003 + number))

@@ -16,7 +16,7 @@ from .rows import segment_of
 from .slices import DISPATCHER, Cut
 from .values import goes_before, in_order, size_of
 
-MOST = 4000  # rows of a node of which the meaning is wanted
+MOST = 4000  # rows that a node may have
 
 
 class TooLarge(Exception):
@@ -60,7 +60,8 @@ def joined(on: list, left: list, right: list) -> list:
 class Meaning:
     """The meaning of a plan's nodes over tables whose rows are given, whole and by segment."""
 
-    def __init__(self, plan: Cut, table: Callable[[Node], list], rows_of: Callable[[Node, int], list]) -> None:
+    def __init__(self, plan: Cut, table: Callable[[Node], list], rows_of: Callable[[Node, int], list], most: int = MOST) -> None:
+        self.most = most
         self.plan = plan
         self.table = table
         self.rows_of = rows_of
@@ -83,7 +84,7 @@ class Meaning:
         elif op == "project":
             rows = [[row[column] for column in value["columns"]] for row in rows]
         elif op == "join":
-            if len(below[0]) * len(below[1]) > MOST * 50:
+            if len(below[0]) * len(below[1]) > self.most * 50:
                 raise TooLarge
             rows = joined(value["on"], *below)
         elif op == "agg" and value["stage"] == "final" and not is_whole:
@@ -94,7 +95,7 @@ class Meaning:
             ])
         elif op == "agg":
             rows = grouped(value["group"], rows, lambda own: [called(call, own) for call in value["calls"]])
-        if len(rows) > MOST:
+        if len(rows) > self.most:
             raise TooLarge
         return rows
 
@@ -148,7 +149,7 @@ class Meaning:
         return None if found == wanted else f"the root's part is {found}, and not {wanted}"
 
 
-def meaning_of(plan: Cut, tables: dict, rows_of: Callable[[Node, int], list]) -> Meaning:
-    return Meaning(plan, lambda scan: tables[scan.value["table"]]["rows"], rows_of)
+def meaning_of(plan: Cut, tables: dict, rows_of: Callable[[Node, int], list], most: int = MOST) -> Meaning:
+    return Meaning(plan, lambda scan: tables[scan.value["table"]]["rows"], rows_of, most)
 
 
