@@ -236,6 +236,8 @@ def planned(rng: random.Random) -> tuple[dict, list[str]]:
     """A document with sound plans of any operators, and the words to run it with."""
     document = any_document(rng, [0, 1, 2, 7, 20, 40])
     document["segments"] = rng.choice([1, 2, 2, 3, 4])
+    settings = document.get("settings", {})
+    settings["retries"] = min(settings.get("retries", 20), 20)  # with 1000 a muted connection isn't given up for 64000 rounds
     document["queries"] = [plan_of(rng, document) for _ in range(rng.choice([1, 1, 1, 2, 3]))]
     return document, fate_words(rng)
 
