@@ -79,17 +79,8 @@ def judged(document: dict, given: list[str]) -> Judged:
     return Judged(flaw, covers)
 
 
-def kind_of(plan: dict) -> str:
-    """The operator of a node, with its stage, or with its order."""
-    return plan["op"] + ("" if plan["op"] != "agg" else f" {plan['stage']}") + (" with an order" if "order" in plan else "")
-
-
-def kinds_in(plan: dict) -> list[str]:
-    return [kind_of(plan), *(kind for child in plans.children_of(plan) for kind in kinds_in(child))]
-
-
 def covered(plan: dict, answered: Answered) -> Counter[str]:
-    found = Counter(kinds_in(plan))
+    found = Counter(cover.kinds_in(plan))
     found["no rows" if not answered.rows else "rows"] += 1
     found["more than 100 rows"] += len(answered.rows) > 100
     found["more than 5 nodes"] += plans.size_of(plan) > 5
@@ -101,9 +92,7 @@ def covered(plan: dict, answered: Answered) -> Counter[str]:
 
 LEAST = {  # of 800 cases
     **{f"status {status}": least for status, least in ((0, 400), (8, 30), (9, 10))},
-    **{kind: 250 for kind in ("scan", "filter", "project", "sort", "join", "agg single", "agg partial", "agg final")},
-    **{kind: 250 for kind in ("gather", "gather with an order", "redistribute", "broadcast")},
-    "limit": 150,
+    **{kind: 150 if kind == "limit" else 250 for kind in cover.KINDS},
     "rows": 400,
     "no rows": 200,
     "more than 100 rows": 3,

@@ -9,6 +9,7 @@ from rules.hub import Hub
 from rules.network import Fate, Network, Random
 from rules.operators import Groups, Matches, Overflow
 from rules.packets import Wide
+from rules.predicates import truth
 from rules.receiver import Receiver
 from rules.sender import FULL, OK, STOPPED
 from rules.session import Fault, Session
@@ -200,6 +201,31 @@ def matched() -> object:
     return [matches.of(row) for row in ([1], [None])]
 
 
+def truths() -> object:
+    """`and`, `or` and `not` of true, false and unknown."""
+    parts = {True: ["=", 1, 1], None: ["=", 1, None], False: ["=", 1, 2]}
+    pairs = [(a, b) for a in parts for b in parts]
+    found = [[truth([word, parts[a], parts[b]], []) for a, b in pairs] for word in ("and", "or")]
+    return [*found, [truth(["not", part], []) for part in parts.values()], truth(["null", None], [])]
+
+
+def wanting_no_more() -> object:
+    """A receiving end that was halted answers each packet and each status query by a stop, and a second halt by nothing."""
+    end = Receiver(4)
+    answers = [end.on_packet(1, [[1]], False), end.halt(), end.halt(), end.on_packet(2, [], True), end.on_query(1)]
+    return [it and (it.kind, it.seq, it.extra) for it in answers], end.is_ready()
+
+
+def in_a_circle() -> object:
+    """Takes serve the senders in turn, each one that has a packet; a take of one sender alone changes nothing of that."""
+    hub = Hub(-1, DEFAULTS, Network([-1, 0, 1, 2], Fate()))
+    hub.begin(1, [(1, at, -1) for at in (0, 1, 2)])
+    for at, seq in ((0, 1), (0, 2), (1, 1), (2, 1), (2, 2)):
+        hub.arrive(1, (1, at, -1), "rows", seq, 0, [[at, seq]])
+    rows = [hub.take(1)[1] for _ in range(2)]
+    return rows, hub.take_from(1, 0)[1], hub.take(1)[1], hub.take(1)[1], hub.take(1)
+
+
 T, F = True, False
 STEPS: list[tuple[Callable[[], object], object]] = [
     (heads, ([MORE, WAIT, MORE, [2], MORE, [2], [1], "end"], ["take from 0", "take from 1", "take from 1", "take from 0"])),
@@ -219,6 +245,9 @@ STEPS: list[tuple[Callable[[], object], object]] = [
     (too_great, [5, 5, 5]),
     (overflows, (14, "error 14 overflow query 1 node 2 segment 0")),
     (first_rows, ([T] * 8 + [F], [[10], [12], [11], [13]])),
+    (truths, [[T, None, F, None, None, F, F, F, F], [T, T, T, T, None, None, T, None, F], [F, None, T], T]),
+    (wanting_no_more, ([("ack", 1, 0), ("stop", 0, 0), None, ("stop", 2, 0), ("stop", 1, 0)], F)),
+    (in_a_circle, ([[[0, 1]], [[1, 1]]], [[0, 2]], [[2, 1]], [[2, 2]], None)),
     (matched, [[[1, 1, 5], [1, 1, 4]], []]),
     (lambda: Random(0).word() % 100, 35),
 ]

@@ -63,12 +63,24 @@ def long_text(length: int) -> dict:
 
 MANY = [[i] for i in range(2000)]
 SORTED = [[2, "x"], [None, "y"], [1, "z"], [2, "w"]]
+TIED = [[2, "b"], [1, "a"], [2, "a"], [None, "c"], [1, "c"]]
 L = table("l", "it", [[1, "p"], [None, "q"], [1, "r"], [2, "s"]])
 R = table("r", "ii", [[1, 100], [1, 101], [None, 102], [3, 103]], key=[0])
 BY_ONE = [[0, "asc"]]
 JOINED = {"op": "join", "left": over("redistribute", scan("l"), keys=[0]), "right": scan("r"), "on": [[0, 0]]}
 CROSSED = {"op": "join", "left": scan("u"), "right": over("broadcast", scan("v")), "on": []}
 SUMMED = final(gathered(aggregated([], [["sum", 0], ["count"]], scan(), "partial")))
+BOTH_MOVED = {
+    "op": "join",
+    "left": over("redistribute", scan("x"), keys=[0]),
+    "right": over("redistribute", scan("y"), keys=[0]),
+    "on": [[0, 0]],
+}
+TOP_TWO = limited(2, gathered(limited(2, over("sort", scan(), keys=[[0, "desc"]])), order=[[0, "desc"]]))
+GROUPED = [[1, "b"], [None, "a"], [2, None], [1, "a"], [None, None], [1, None]]
+IN_STAGES = aggregated([0], [["count"], ["count", 1], ["min", 1], ["max", 1], ["sum", 0]], scan(), "partial")
+COUNTED = aggregated([0], [["count"]], gathered(scan()))
+AT_THE_TOP = over("project", over("filter", COUNTED, where=[">", {"col": 1}, 1]), columns=[1, 0, 1])
 BOTH = ["# 1 1 0 -1 2 2 1 0 whole", "# 1 1 1 -1 2 2 1 0 whole"]
 FOUR = ["[10]", "[12]", "[11]", "[13]"]
 EQUAL = ["not", ["=", {"col": 0}, 1]]
@@ -180,4 +192,60 @@ WORKED = [
     Worked("a word out of its range", four(gathered(scan())), ["sim", "loss=901"], 1, ["error 1 usage word 2"]),
     Worked("no words", four(gathered(scan())), [], 1, ["error 1 usage word 1"]),
     Worked("a word twice", four(gathered(scan())), ["sim", "seed=1", "seed=1"], 1, ["error 1 usage word 3"]),
+    Worked(
+        "rows that are equal in the keys of a sort stay in their order",
+        document(gathered(over("sort", scan(), keys=BY_ONE)), [table("t", "it", TIED)], 1),
+        ["sim", "tally=no"],
+        0,
+        ['[1,"a"]', '[1,"c"]', '[2,"b"]', '[2,"a"]', '[null,"c"]'],
+    ),
+    Worked(
+        "null comes last in a sort from the greatest, too",
+        document(gathered(over("sort", scan(), keys=[[0, "desc"], [1, "asc"]])), [table("t", "it", TIED)], 1),
+        ["sim", "tally=no"],
+        0,
+        ['[2,"a"]', '[2,"b"]', '[1,"a"]', '[1,"c"]', '[null,"c"]'],
+    ),
+    Worked(
+        # In the first round slice 3 sends before slice 2. Segment 1 has its right side whole long before segment 0.
+        "the first send is the last slice's, and is lost",
+        document(gathered(BOTH_MOVED), [table("x", "i", [[1], [2], [3]]), table("y", "i", [[1], [2]])]),
+        ["sim", "drop=1"],
+        0,
+        ["[1,1]", "[2,2]", "# 1 1 0 -1 1 1 1 0 whole", "# 1 1 1 -1 1 1 1 0 whole"]
+        + ["# 1 2 0 0 0 0 1 0 whole", "# 1 2 0 1 2 2 1 0 whole", "# 1 2 1 0 1 1 1 0 whole", "# 1 2 1 1 0 0 1 0 whole"]
+        + ["# 1 3 0 0 0 0 1 1 whole", "# 1 3 0 1 1 1 1 0 whole", "# 1 3 1 0 1 1 1 0 whole", "# 1 3 1 1 0 0 1 0 whole"],
+    ),
+    Worked(
+        # The first packet is full at the 542nd put, in round 3, and is taken in round 4, after the segments' turns.
+        "a limit that stops the senders after four rounds of 256 turns",
+        four(limited(2, gathered(scan())), [[i] for i in range(4000)]),
+        ["sim"],
+        0,
+        ["[0]", "[2]", "# 1 1 0 -1 1024 541 1 0 stopped", "# 1 1 1 -1 1024 0 1 0 stopped"],
+    ),
+    Worked(
+        # A stop comes in round 1, so the next put is refused. Without it a packet goes out in round 3, and is answered by a stop.
+        "the first of two stops is lost",
+        four(limited(0, gathered(scan())), [[i] for i in range(4000)]),
+        ["sim", "drop=1"],
+        0,
+        ["# 1 1 0 -1 768 0 1 0 stopped", "# 1 1 1 -1 256 0 0 0 stopped"],
+    ),
+    Worked("the two greatest rows of all", four(TOP_TWO, [[5], [None], [9], [7], [8], [1]]), ["sim", "tally=no"], 0, ["[9]", "[8]"]),
+    Worked(
+        # Groups come in the order of their first rows: at segment 0 those of 2, which is there alone, then at 1 those of 1 and null.
+        "groups in two stages",
+        document(gathered(final(over("redistribute", IN_STAGES, keys=[0]))), [table("t", "it", GROUPED)]),
+        ["sim", "tally=no"],
+        0,
+        ['[2,1,0,null,null,2]', '[1,3,2,"a","b",3]', '[null,2,1,"a","a",null]'],
+    ),
+    Worked(
+        "operators at the dispatcher",
+        four(AT_THE_TOP, [[3], [3], [None], [4], [None], [3]]),
+        ["sim", "tally=no"],
+        0,
+        ["[3,3,3]", "[2,null,2]"],
+    ),
 ]
