@@ -3,7 +3,7 @@ from __future__ import annotations
 
 from collections import Counter
 
-from rules import plans, reading
+from rules import built, plans, reading
 
 from .making import Case
 
@@ -37,6 +37,17 @@ LEAST = {
     "given up in a later query": 8,
     "losses, and nothing resent": 20,
 }
+KINDS = ["scan", "filter", "project", "sort", "join", "agg single", "agg partial", "agg final", "limit"]
+KINDS += ["gather", "gather with an order", "redistribute", "broadcast"]
+EVERY = {**{f"that ran: {kind}": 100 for kind in KINDS}, "status 9": 5, "a stopped connection": 40, "by a seed": 100, "muted": 20, "64 segments": 8}
+if built.EVERY_PLAN:
+    LEAST = {**{name: least for name, least in LEAST.items() if name != "status 15"}, **EVERY}
+
+
+def kinds_in(plan: dict) -> list[str]:
+    """The operator of each node, an aggregate's with its stage, and a gather's with its order."""
+    kind = plan["op"] + (f" {plan['stage']}" if plan["op"] == "agg" else "") + (" with an order" if "order" in plan else "")
+    return [kind, *(found for child in plans.children_of(plan) for found in kinds_in(child))]
 
 
 def covered(case: Case, status: int, text: bytes) -> Counter[str]:
@@ -52,6 +63,11 @@ def covered(case: Case, status: int, text: bytes) -> Counter[str]:
     large = [plan for plan in document["queries"] if plans.size_of(plan) > 5]
     found["a plan of more than 5 nodes"] += len(large)
     found["a sound plan of more than 5 nodes"] += sum(plans.first_broken(plan, document) is None for plan in large)
+    if status == 0:
+        found.update(f"that ran: {kind}" for plan in document["queries"] for kind in kinds_in(plan))
+        found["a stopped connection"] += b" stopped\n" in text
+        found["by a seed"] += any(word.startswith("seed=") for word in case.words)
+    found["muted"] += any(word.startswith("mute=") for word in case.words)
     if status in (0, 8):
         found += of_tables(document) + of_answer(case, document, status, text)
     return found
@@ -92,13 +108,13 @@ def of_answer(case: Case, document: dict, status: int, text: bytes) -> Counter[s
     return found
 
 
-def table_of(found: Counter[str]) -> str:
+def table_of(found: Counter[str], least: dict[str, int] = LEAST) -> str:
     """The counts in lines of three, each with the least that is wanted."""
-    parts = [f"{name}: {found[name]} ({least})" for name, least in LEAST.items()]
+    parts = [f"{name}: {found[name]} ({wanted})" for name, wanted in least.items()]
     width = max(map(len, parts)) + 2
     rows = [parts[i : i + 3] for i in range(0, len(parts), 3)]
     return "\n".join("".join(part.ljust(width) for part in row).rstrip() for row in rows)
 
 
-def lacking(found: Counter[str]) -> list[str]:
-    return [f"{name}: {found[name]}, and {least} are wanted" for name, least in LEAST.items() if found[name] < least]
+def lacking(found: Counter[str], least: dict[str, int] = LEAST) -> list[str]:
+    return [f"{name}: {found[name]}, and {wanted} are wanted" for name, wanted in least.items() if found[name] < wanted]

@@ -74,12 +74,13 @@ def shorter(items: list) -> Iterator[list]:
         yield []
 
 
-def fewer_drops(words: list[str]) -> Iterator[list[str]]:
-    if len(words) == 2 and words[1].startswith("drop="):
-        yield words[:1]
-        for numbers in shorter(words[1][5:].split(",")):
+def fewer_words(words: list[str]) -> Iterator[list[str]]:
+    """The words without one, or with fewer drops."""
+    for at, word in enumerate(words[1:], 1):
+        yield words[:at] + words[at + 1 :]
+        for numbers in shorter(word[5:].split(",")) if word.startswith("drop=") else []:
             if numbers:
-                yield [words[0], "drop=" + ",".join(numbers)]
+                yield [*words[:at], "drop=" + ",".join(numbers), *words[at + 1 :]]
 
 
 def without_a_column(document: object) -> Iterator[object]:
@@ -145,7 +146,7 @@ def made_small(case: Case, fails: Callable[[Case], bool], seconds: float = 20.0)
 
 
 def ways(case: Case) -> Iterator[Case]:
-    for words in fewer_drops(case.words):
+    for words in fewer_words(case.words):
         yield Case(case.kind, words, case.source)
     try:
         document = json.loads(case.source)

@@ -4,9 +4,12 @@ from __future__ import annotations
 import random
 from dataclasses import dataclass
 
-from . import faults, tables, trees
+from rules import built
+
+from . import faults, sound, tables, trees, words
 
 KINDS = ["runs", "lossy", "rule", "fault", "deep", "lossy", "runs", "words", "fault", "deep", "crowded", "plans", "runs", "spoiled"]
+KINDS += ["every plan"] * 6 if built.EVERY_PLAN else []
 RULES = [12, 9, 11, 7, 4, 5, 8, 3, 1, 6, 10, 2]
 LONGEST = 67108864
 
@@ -22,8 +25,8 @@ class Case:
 
 def long_case(number: int) -> Case:
     """As many bytes as are read, blanks and then a document; or one blank more."""
-    document, words = tables.running(random.Random(number))
-    return Case("long", words, faults.bytes_of(document).rjust(LONGEST + number % 2))
+    document, given = tables.running(random.Random(number))
+    return Case("long", given, faults.bytes_of(document).rjust(LONGEST + number % 2))
 
 
 def case_of(seed: int, number: int) -> Case:
@@ -33,22 +36,24 @@ def case_of(seed: int, number: int) -> Case:
     if number in (100, 101):
         return long_case(number)
     if kind == "runs":
-        document, words = tables.running(rng)
+        document, given = tables.running(rng)
     elif kind == "lossy":
-        document, words = tables.lossy(rng)
+        document, given = tables.lossy(rng)
     elif kind == "crowded":
-        document, words = tables.crowded(rng)
+        document, given = tables.crowded(rng)
+    elif kind == "every plan":
+        document, given = sound.planned(rng)
     elif kind == "words":
-        document, words = tables.running(rng)[0], tables.faulty_words(rng, turn)
+        document, given = tables.running(rng)[0], words.faulty_words(rng, turn)
     elif kind == "rule":
-        document, words = trees.aiming(rng, RULES[turn % 12]), ["sim"]
+        document, given = trees.aiming(rng, RULES[turn % 12]), ["sim"]
     elif kind == "deep":
-        document, words = trees.deep(rng), ["sim"]
+        document, given = trees.deep(rng), ["sim"]
     elif kind == "plans":
-        document, words = trees.planned(rng), ["sim"]
+        document, given = trees.planned(rng), ["sim"]
     elif kind == "spoiled":
-        document, words = faults.spoiled(rng), ["sim"]
+        document, given = faults.spoiled(rng), ["sim"]
     else:
         code = 1 + (number % 2 + 2 * turn) % 7
         return Case(kind, ["sim"], faults.faulty(rng, code))
-    return Case(kind, words, faults.bytes_of(document))
+    return Case(kind, given, faults.bytes_of(document))

@@ -105,17 +105,3 @@ def crowded(rng: random.Random) -> tuple[dict, list[str]]:
     document["queries"] = [gather(table["name"]) for table in document["tables"]]
     losses = [drop_word(rng.sample(range(1, 900), rng.choice([5, 64])))] if rng.random() < 0.6 else []
     return document, ["sim", *losses]
-
-
-DROPS = ["", "01", "0", "1,", ",1", "1,,2", "2,1", "1,1", "+1", "-1", "1 ", " 1", "4294967296", "1.0", "a", "1,2,x", "٣", "1;2", "0,1", "1,02"]
-WORDS = [[], ["sim", "drop=1", "drop=2"]] + [["sim", f"drop={drops}"] for drops in DROPS]
-WORDS += [[""], ["sim", ""], ["run"], ["SIM"], ["sim "], ["drop=1", "sim"], ["sim", "sim"], ["check"]]
-WORDS += [["sim", word] for word in ("drop", "drops=1", "Drop=1", "seed=1", "=1", "drop=4294967295", "drop=1,4294967295")]
-WORDS += [["sim", "drop=1\udcff"], ["\udcff"]]  # an argument that is no text
-
-
-def faulty_words(rng: random.Random, turn: int) -> list[str]:
-    """Words that are none of the command's, or just are: each of the list in turn, and every third time a long list of drops."""
-    if turn % 3 == 2:
-        return ["sim", drop_word(rng.sample(range(1, 2**32), rng.choice([1, 63, 64, 65, 66])))]
-    return WORDS[(turn - turn // 3) % len(WORDS)]

@@ -323,6 +323,14 @@ def first_broken(plan: dict, document: dict) -> str | None:
     return None
 
 
+def seen_of(plan: dict, document: dict) -> tuple[Node, dict[int, Seen]]:
+    """The root of a sound plan, and what is known of each node by its number."""
+    seen: dict[int, Seen] = {}
+    root = numbered(plan, [], [0])
+    judge(root, tables_of(document), document, seen)
+    return root, seen
+
+
 def size_of(plan: dict) -> int:
     """How many nodes it has."""
     return 1 + sum(size_of(child) for child in children_of(plan))

@@ -18,7 +18,7 @@ class Receiver:
         self.run = self.consumed = 0
         self.kept: dict[int, tuple[list, bool]] = {}
         self.whole = self.halted = False
-        self.rows_taken = 0
+        self.taken_rows: list = []
 
     def on_packet(self, seq: int, rows: list, last: bool) -> Answer | None:
         if self.halted:
@@ -52,5 +52,12 @@ class Receiver:
         """The rows that end in the next packet, and the answer to its sender."""
         self.consumed += 1
         rows, self.whole = self.kept.pop(self.consumed)
-        self.rows_taken += len(rows)
+        self.taken_rows += rows
         return rows, self.acknowledges()
+
+    def halt(self) -> Answer | None:
+        """Wants no more. Nothing, if it has all or was halted before."""
+        if self.is_over():
+            return None
+        self.halted, self.kept = True, {}
+        return Answer("stop", 0, 0)

@@ -3,7 +3,7 @@ from __future__ import annotations
 
 import json
 
-from .packets import cut, spelled
+from .packets import Wide, cut, spelled
 
 
 def hash_of(spelling: bytes) -> int:
@@ -20,9 +20,9 @@ def segment_of(row: list, key: list[int], segments: int) -> int:
 
 
 def parts_of(table: dict, segments: int) -> list[list]:
-    """The rows that each segment that sends has."""
+    """The rows that each segment has."""
     if table.get("replicated"):
-        return [table["rows"]]
+        return [table["rows"]] * segments
     parts = [[] for _ in range(segments)]
     for number, row in enumerate(table["rows"]):
         at = segment_of(row, table["key"], segments) if "key" in table else number % segments
@@ -42,4 +42,5 @@ def chunks_of(rows: list, packet: int) -> list[tuple[int, list]]:
 
 def line_of(row: list) -> str:
     """A row as it is printed."""
-    return json.dumps(row, ensure_ascii=False, separators=(",", ":"))
+    values = [value.number if isinstance(value, Wide) else value for value in row]
+    return json.dumps(values, ensure_ascii=False, separators=(",", ":"))

@@ -8,13 +8,19 @@ from .window import Window
 FULL, STOPPED, OK = "full", "stopped", "ok"
 
 
-class Spent(Exception):
+GREATEST = 4294967295  # the last number that a packet may have
+
+
+class TooLong(Exception):
+    """A connection whose packets have used up their numbers."""
+
+
+@dataclass
+class Spent:
     """A packet, or a status query, that was sent again as often as is allowed."""
 
-    def __init__(self, seq: int, tries: int) -> None:
-        super().__init__(seq, tries)
-        self.seq = seq
-        self.tries = tries
+    seq: int
+    tries: int
 
 
 @dataclass
@@ -54,7 +60,7 @@ class Sender:
         self.finished = self.stopped = False
         self.query_due: int | None = None
         self.query_tries = 0
-        self.rows_put = 0
+        self.put_rows: list = []
         self.resent = 0
 
     # ---- what the slice asks
@@ -69,7 +75,7 @@ class Sender:
             self._seal(False)
         self.filled += size
         self.filling += ended
-        self.rows_put += len(ended)
+        self.put_rows += ended
         return OK, self._go(now)
 
     def finish(self, now: int) -> tuple[str, list[Out]]:
@@ -85,6 +91,8 @@ class Sender:
         return self.stopped or (self.finished and not self.kept)
 
     def _seal(self, last: bool) -> None:
+        if self.sealed == GREATEST:
+            raise TooLong
         self.sealed += 1
         self.kept.append(Packet(self.sealed, self.filling, last))
         self.filled, self.filling = 0, []
@@ -164,23 +172,27 @@ class Sender:
 
     # ---- what a tick makes of it
 
+    def waits(self) -> bool:
+        """Whether anything is kept."""
+        return bool(self.kept)
+
     def due(self, now: int) -> list[Packet]:
-        """The packets that are due, of which none is spent."""
-        due = [packet for packet in self.kept if packet.emitted is not None and packet.due <= now]
+        return [packet for packet in self.kept if packet.emitted is not None and packet.due <= now]
+
+    def spent_of(self, due: list[Packet]) -> Spent | None:
+        """The first of these packets that may not be sent again."""
         for packet in due:
             if packet.tries == self.retries:
-                raise Spent(packet.seq, packet.tries)
-        return due
+                return Spent(packet.seq, packet.tries)
+        return None
 
     def query_is_due(self, now: int) -> bool:
-        if self.query_due is None or self.query_due > now:
-            return False
-        if self.query_tries == self.retries:
-            raise Spent(self.emitted, self.query_tries)
-        return True
+        return self.query_due is not None and self.query_due <= now
 
-    def ticked(self, due: list[Packet], query: bool, now: int) -> list[Out]:
-        """Emits again what is due, and then the status query."""
+    def spent_query(self) -> Spent | None:
+        return Spent(self.emitted, self.query_tries) if self.query_tries == self.retries else None
+
+    def send_again(self, due: list[Packet], now: int) -> list[Out]:
         out = []
         for packet in due:
             packet.tries += 1
@@ -188,8 +200,9 @@ class Sender:
             out.append(self._again(packet))
         if due:
             self.window.lost()
-        if query:
-            self.query_tries += 1
-            self.query_due = now + self.window.wait(self.query_tries)
-            out.append(Out("query", self.emitted))
         return out
+
+    def query_again(self, now: int) -> list[Out]:
+        self.query_tries += 1
+        self.query_due = now + self.window.wait(self.query_tries)
+        return [Out("query", self.emitted)]

@@ -1,28 +1,28 @@
-"""Queries that gather a scan, run over a network that loses the sends it is told to (examples/README.md, "The rounds").
-
-A datagram is (from, to, query, segment that sends the rows, kind, seq, extra, what it carries).
-"""
+"""Queries that run one after the other over a network, in rounds (examples/README.md, "The rounds")."""
 from __future__ import annotations
 
-from collections import deque
 from dataclasses import dataclass
+from typing import Callable
 
-from . import rows as spelling
-from .receiver import Answer, Receiver
-from .sender import FULL, STOPPED, Out, Sender, Spent
+from . import built, gathering
+from .hub import Given, Hub
+from .network import Fate, Network
+from .operators import Overflow
+from .plans import Node
+from .sender import TooLong
+from .slices import DISPATCHER, Cut
+from .worker import Worker
 
-DISPATCHER = -1
-CALLS = 256  # of a worker in a round
-DATAGRAMS = 1024  # that a node receives in a round
-ROUNDS = 100000  # of a query
-TO_RECEIVER = ("rows", "last", "query")
+TURNS = 256  # of a worker in a round
 
 
 @dataclass
 class Tally:
-    segment: int
-    sent: int
-    taken: int
+    motion: int
+    sender: int
+    receiver: int
+    sent: list  # rows
+    taken: list  # rows
     packets: int
     resent: int
     whole: bool
@@ -45,200 +45,67 @@ class Fault(Exception):
         self.line = line
 
 
-class Network:
-    def __init__(self, nodes: list[int], drops: list[int]) -> None:
-        self.drops = set(drops)
-        self.kept: dict[int, deque] = {node: deque() for node in nodes}
-        self.under_way = 0
-        self.in_hand: set[int] = set()
-        self.sends = 0
-
-    def send(self, datagram: tuple) -> None:
-        self.sends += 1
-        if self.sends not in self.drops:
-            self.kept[datagram[1]].append(datagram)
-            self.under_way += 1
-
-    def receive(self, node: int) -> tuple | None:
-        self.in_hand.discard(node)
-        if not self.kept[node]:
-            return None
-        self.in_hand.add(node)
-        self.under_way -= 1
-        return self.kept[node].popleft()
-
-    def is_quiet(self, node: int) -> bool:
-        return self.under_way == 0 and not self.in_hand - {node}
-
-
-class Scanner:
-    """The worker of a segment that sends: one call a turn."""
-
-    def __init__(self, rows: list, packet: int) -> None:
-        self.chunks = spelling.chunks_of(rows, packet)
-        self.at = 0
-        self.done = False
-
-    def turn(self, node: "Node") -> bool:
-        """Whether it may go on at once."""
-        if self.done:
-            return False
-        if self.at < len(self.chunks):
-            answer = node.put(*self.chunks[self.at])
-            self.at += answer not in (FULL, STOPPED)
-        else:
-            answer = node.finish()
-        self.done = answer == STOPPED or (answer != FULL and self.at == len(self.chunks) and node.sender.finished)
-        return answer != FULL and not self.done
-
-
-class Gatherer:
-    """The worker of the dispatcher: one take a turn, which lets out the rows that end in the parcel."""
-
-    def __init__(self) -> None:
-        self.rows: list = []
-        self.done = False
-
-    def turn(self, node: "Node") -> bool:
-        if not self.done:
-            taken = node.take()
-            if taken is not None:
-                self.rows += taken
-                return True
-            self.done = all(receiver.is_over() for receiver in node.receivers.values())
-        return False
-
-
-class Node:
-    """A hub of one segment, or of the dispatcher, with one query at a time."""
-
-    def __init__(self, at: int, settings: dict, network: Network) -> None:
-        self.at = at
-        self.settings = settings
-        self.network = network
-        self.now = 0
-        self.query = 0
-        self.left = True
-        self.quiet = False
-        self.sender: Sender | None = None
-        self.receivers: dict[int, Receiver] = {}
-        self.served: int | None = None
-        self.worker: Scanner | Gatherer | None = None
-
-    def begin(self, query: int, sends: bool, senders: list[int]) -> None:
-        self.query, self.left = query, False
-        self.sender = Sender(self.settings) if sends else None
-        self.receivers = {segment: Receiver(self.settings["receive_depth"]) for segment in senders}
-        self.served = None
-
-    # ---- what its worker asks
-
-    def put(self, size: int, ended: list) -> str:
-        answer, out = self.sender.put(size, ended, self.now)
-        self._emit(out)
-        return answer
-
-    def finish(self) -> str:
-        answer, out = self.sender.finish(self.now)
-        self._emit(out)
-        return answer
-
-    def take(self) -> list | None:
-        """The rows of the next packet of the first sender that has one, in cyclic order after the one served last."""
-        ready = [segment for segment, receiver in self.receivers.items() if receiver.is_ready()]
-        if not ready:
-            return None
-        after = [segment for segment in ready if self.served is not None and segment > self.served]
-        self.served = min(after or ready)
-        rows, answer = self.receivers[self.served].take()
-        self._answer(self.query, self.served, answer)
-        return rows
-
-    def _emit(self, out: list[Out]) -> None:
-        for it in out:
-            self.network.send((self.at, DISPATCHER, self.query, self.at, it.kind, it.seq, 0, it.rows))
-
-    def _answer(self, query: int, segment: int, answer: Answer) -> None:
-        self.network.send((self.at, segment, query, segment, answer.kind, answer.seq, answer.extra, answer.missing))
-
-    # ---- the steps of a round
-
-    def receive_all(self) -> None:
-        self.quiet = False
-        for _ in range(DATAGRAMS):
-            datagram = self.network.receive(self.at)
-            if datagram is None:
-                self.quiet = self.network.is_quiet(self.at)
-                return
-            self.arrive(*datagram[2:])
-
-    def arrive(self, query: int, segment: int, kind: str, seq: int, extra: int, carried: list) -> None:
-        if self.left or query != self.query:
-            if kind in TO_RECEIVER:  # that query has ended here; an answer to it is late
-                self._answer(query, segment, Answer("stop", seq, 0))
-        elif kind in TO_RECEIVER:
-            end = self.receivers[segment]
-            answer = end.on_query(seq) if kind == "query" else end.on_packet(seq, carried, kind == "last")
-            if answer is not None:
-                self._answer(query, segment, answer)
-        else:
-            self._emit(self.sender.hear(kind, seq, extra, carried, self.now))
-
-    def tick(self) -> None:
-        self.now += 1
-        if self.left or self.sender is None:
-            return
-        due = self.sender.due(self.now)
-        query = self.sender.query_is_due(self.now)
-        self._emit(self.sender.ticked(due, query, self.now))
-
-    def leave(self) -> None:
-        if self.left or (self.worker is not None and not self.worker.done):
-            return
-        sent = self.sender is None or self.sender.is_clear()
-        self.left = sent and all(receiver.is_over() for receiver in self.receivers.values())
-
-
 class Session:
-    """A node for the dispatcher and for each segment, and the network between them."""
+    """A hub for the dispatcher and for each segment, and the network between them."""
 
-    def __init__(self, segments: int, settings: dict, drops: list[int]) -> None:
-        nodes = list(range(-1, segments))
-        self.network = Network(nodes, drops)
+    def __init__(self, segments: int, settings: dict, fate: Fate, rounds: int, every_plan: bool = built.EVERY_PLAN) -> None:
+        nodes = list(range(DISPATCHER, segments))
+        self.network = Network(nodes, fate)
         self.settings = settings
-        self.nodes = [Node(at, settings, self.network) for at in nodes]
+        self.rounds = rounds
+        self.every_plan = every_plan
+        self.hubs = {at: Hub(at, settings, self.network) for at in nodes}
 
-    def run(self, query: int, parts: list[list]) -> Answered:
-        """Runs a query to whose dispatcher the first segments send these rows, each its own."""
-        senders = list(range(len(parts)))
-        dispatcher, *segments = self.nodes
-        for node in self.nodes:
-            node.begin(query, node.at in senders, senders if node is dispatcher else [])
-            node.worker = Scanner(parts[node.at], self.settings["packet"]) if node.at in senders else None
-        dispatcher.worker = Gatherer()
-        for _ in range(ROUNDS):
-            self._round(query, [*segments, dispatcher])
-            if all(node.left for node in self.nodes):
-                return Answered(dispatcher.worker.rows, [self._tally(at) for at in senders])
-        raise Fault(9, f"error 9 unfinished query {query} rounds {ROUNDS}")
+    def run(self, query: int, plan: Cut, rows_of: Callable[[Node, int], list]) -> Answered:
+        """Runs a query, given which rows a scan has at a segment."""
+        connections = plan.connections()
+        for hub in self.hubs.values():
+            hub.begin(query, [it for it in connections if hub.at in it[1:]])
+        workers = self._workers(plan, rows_of)
+        at_work = {at: [worker for worker in workers if worker.hub.at == at] for at in self.hubs}
+        for _ in range(self.rounds):
+            self._round(query, workers, at_work)
+            if all(hub.left for hub in self.hubs.values()):
+                return Answered(workers[-1].let_out, [self._tally(it) for it in connections])
+        raise Fault(9, f"error 9 unfinished query {query} rounds {self.rounds}")
 
-    def _round(self, query: int, workers: list[Node]) -> None:
-        for node in workers:
-            for _ in range(CALLS if node.worker else 0):
-                if not node.worker.turn(node):
-                    break
-        for node in self.nodes:
-            node.receive_all()
-        for node in self.nodes:
-            if node.quiet:
+    def _workers(self, plan: Cut, rows_of: Callable[[Node, int], list]) -> list:
+        """In the order of their turns: from the last slice to slice 0, within a slice by segment."""
+        packet = self.settings["packet"]
+        if self.every_plan:
+            slices = reversed(plan.slices)
+            return [Worker(plan, it, self.hubs[at], packet, rows_of) for it in slices for at in it.gang]
+        scan = plan.slices[1].top
+        scanners = [gathering.Scanner(self.hubs[at], rows_of(scan, at), packet) for at in plan.slices[1].gang]
+        return [*scanners, gathering.Gatherer(self.hubs[DISPATCHER])]
+
+    def _round(self, query: int, workers: list, at_work: dict[int, list]) -> None:
+        for worker in workers:
+            for _ in range(TURNS):
                 try:
-                    node.tick()
-                except Spent as spent:
-                    ends = f"query {query} motion 1 from {node.at} to {DISPATCHER}"
-                    raise Fault(8, f"error 8 spent {ends} seq {spent.seq} tries {spent.tries}") from None
-        for node in self.nodes:
-            node.leave()
+                    if not worker.turn():
+                        break
+                except Overflow as over:
+                    raise Fault(14, f"error 14 overflow query {query} node {over.node} segment {worker.hub.at}") from None
+                except TooLong as long:
+                    raise Fault(12, f"error 12 stream too long query {query} {ends_of(long.args[0])}") from None
+        for hub in self.hubs.values():
+            hub.receive_all()
+        for hub in self.hubs.values():
+            if hub.quiet:
+                try:
+                    hub.tick()
+                except Given as given:
+                    spent = f"seq {given.spent.seq} tries {given.spent.tries}"
+                    raise Fault(8, f"error 8 spent query {query} {ends_of(given.connection)} {spent}") from None
+        for hub in self.hubs.values():
+            if not hub.left and all(worker.done for worker in at_work[hub.at]):
+                hub.leave()
 
-    def _tally(self, at: int) -> Tally:
-        sender, receiver = self.nodes[at + 1].sender, self.nodes[0].receivers[at]
-        return Tally(at, sender.rows_put, receiver.rows_taken, sender.emitted, sender.resent, receiver.whole)
+    def _tally(self, it: tuple[int, int, int]) -> Tally:
+        sender, receiver = self.hubs[it[1]].senders[it], self.hubs[it[2]].receivers[it]
+        return Tally(*it, sender.put_rows, receiver.taken_rows, sender.emitted, sender.resent, receiver.whole)
+
+
+def ends_of(it: tuple[int, int, int]) -> str:
+    return f"motion {it[0]} from {it[1]} to {it[2]}"
