@@ -12,6 +12,8 @@ import time
 from dataclasses import dataclass
 from typing import Callable
 
+from rules import built
+
 
 @dataclass
 class Given:
@@ -140,6 +142,50 @@ WORDS: dict[str, Callable[[list[str]], list[str]]] = {
 }
 
 
+def has_op(given: Given, mark: bytes) -> bool:
+    return given.status == 0 and mark in given.source
+
+
+def turn_rows_round(given: Given) -> None:
+    """Of documents with an ordered gather and one query."""
+    rows = [line for line in given.lines if line.startswith(b"[")]
+    if has_op(given, b'"order"') and not any(line.startswith(b"# 2") for line in given.lines):
+        given.lines[: len(rows)] = reversed(rows)
+
+
+def leave_a_row_out(given: Given) -> None:
+    if has_op(given, b'"limit"') and given.lines and given.lines[0].startswith(b"["):
+        given.lines.pop(0)
+
+
+def change_rows(given: Given, mark: bytes, old: bytes, new: bytes) -> None:
+    if has_op(given, mark):
+        given.lines = [line.replace(old, new) if line.startswith(b"[") else line for line in given.lines]
+
+
+def without(words: list[str], name: str) -> list[str]:
+    return [word for word in words if not word.startswith(name)]
+
+
+def once(words: list[str]) -> list[str]:
+    """The words without those whose name stood before."""
+    return [word for at, word in enumerate(words) if word.split("=")[0] not in [it.split("=")[0] for it in words[:at]]]
+
+
+if built.EVERY_PLAN:  # a program that runs less has no such answers
+    CHANGES |= {
+        "a gather in the order from its end": turn_rows_round,
+        "a limit with a row less": leave_a_row_out,
+        "a sum over nothing told as 0": lambda given: change_rows(given, b'"sum"', b"null", b"0"),
+        "a count told with one more digit": lambda given: change_rows(given, b'["count"]', b"]", b"0]"),
+        "the connections of motion 2 told as those of 3": lambda given: tallies(given, 2, lambda number: 3 if number == 2 else number),
+        "a round less with status 9": lambda given: last_line(given, 9, 6, lambda number: b"%d" % (int(number) - 1)),
+        "status 1 at the next word": lambda given: last_line(given, 1, 4, more),
+    }
+    WORDS |= {f"{name} is forgotten": lambda words, name=name: without(words, name) for name in ("seed", "loss", "repeat", "delay", "mute", "tally")}
+    WORDS |= {"a word twice is taken": once, "more rounds than are allowed": lambda words: without(words, "rounds")}
+
+
 def fewer(word: str) -> str:
     """The word without the numbers above 50."""
     if not word.startswith("drop=") or not word[5:].replace(",", "").isdecimal():
@@ -147,11 +193,11 @@ def fewer(word: str) -> str:
     return "drop=" + ",".join(number for number in word[5:].split(",") if number and int(number) <= 50)
 
 
-def act(name: str, built: str) -> None:
+def act(name: str, program: str) -> None:
     """Runs the built program, and answers with the fault of this name."""
     source = sys.stdin.buffer.read()
     words = WORDS.get(name, list)(sys.argv[1:])
-    run = subprocess.run([built, *words], input=source, capture_output=True)
+    run = subprocess.run([program, *words], input=source, capture_output=True)
     given = Given(words, source, run.returncode, run.stdout.split(b"\n")[:-1])
     if name in CHANGES:
         CHANGES[name](given)

@@ -195,6 +195,30 @@ def first_rows() -> object:
     return [root.turn() for _ in range(9)], root.let_out
 
 
+def again_and_again() -> object:
+    """The same packet three times: a first answer, and two that say it was there. A packet of a query that has ended is stopped."""
+    network = Network([-1, 0], Fate())
+    hub = Hub(-1, DEFAULTS, network)
+    hub.begin(1, [(1, 0, -1)])
+    for _ in range(3):
+        hub.arrive(1, (1, 0, -1), "last", 1, 0, [[10]])
+    taken = hub.take(1)
+    hub.leave()
+    hub.begin(2, [(1, 0, -1)])
+    hub.arrive(1, (1, 0, -1), "last", 1, 0, [[10]])
+    hub.arrive(1, (1, 0, -1), "ack", 1, 1, [])
+    sent = [network.receive(0) for _ in range(6)]
+    return taken, [it and (it[2], *it[4:7]) for it in sent], hub.receivers[1, 0, -1].taken_rows
+
+
+def summed() -> object:
+    """A sum that no int holds is a value of another kind."""
+    groups = Groups(False, [], [["sum", 0], ["count"], ["count", 0], ["min", 0], ["max", 0]], 1)
+    for value in (2**63 - 1, 2**63 - 1, None, 2**63 - 1, 2**63 - 1):
+        groups.take([value])
+    return groups.rows()
+
+
 def matched() -> object:
     """A join of the right rows [1,5], [1,4], [null,3] with the left rows [1] and [null]."""
     matches = Matches([[0, 0]], [[1, 5], [1, 4], [None, 3]])
@@ -248,6 +272,8 @@ STEPS: list[tuple[Callable[[], object], object]] = [
     (truths, [[T, None, F, None, None, F, F, F, F], [T, T, T, T, None, None, T, None, F], [F, None, T], T]),
     (wanting_no_more, ([("ack", 1, 0), ("stop", 0, 0), None, ("stop", 2, 0), ("stop", 1, 0)], F)),
     (in_a_circle, ([[[0, 1]], [[1, 1]]], [[0, 2]], [[2, 1]], [[2, 2]], None)),
+    (again_and_again, ((0, [[10]], T), [(1, "ack", 1, 0), *[(1, "duplicate", 1, 1)] * 2, (1, "ack", 1, 1), (1, "stop", 1, 0), None], [])),
+    (summed, [[Wide(36893488147419103228), 5, 4, 2**63 - 1, 2**63 - 1]]),
     (matched, [[[1, 1, 5], [1, 1, 4]], []]),
     (lambda: Random(0).word() % 100, 35),
 ]

@@ -23,8 +23,8 @@ ALL_WORDS += ["tally=No", "mute=0:-1", "mute=-1:63", "mute=0:64", "mute=-2:0", "
 
 def faulty_words(rng: random.Random, turn: int) -> list[str]:
     """Words that are none of the command's, or just are: each of the list in turn, and every third time a long list of drops."""
+    if turn % 3 == 2 and built.EVERY_PLAN and turn % 12 != 11:
+        return ["sim", *rng.choices(ALL_WORDS, k=rng.choice([1, 1, 2, 3]))]
     if turn % 3 == 2:
         return ["sim", drop_word(rng.sample(range(1, 2**32), rng.choice([1, 63, 64, 65, 66])))]
-    if built.EVERY_PLAN and turn % 3 == 1:
-        return ["sim", *rng.sample(ALL_WORDS, rng.choice([1, 1, 2, 3]))]
     return WORDS[(turn - turn // 3) % len(WORDS)]
