@@ -74,6 +74,7 @@ impl<'a> Slice<'a> {
         // The worker's connections are those on which it hears and sends.
         ensures listens { IfOk result (λ s. Listening (ends_of (worker_of plan.now rows.now id.now.slice id.now.at) id.now.session id.now.query) (part_for plan.now rows.now id.now)) }
         ensures reaches { IfOk result (λ s. Reaching (ends_of (worker_of plan.now rows.now id.now.slice id.now.at) id.now.session id.now.query) s.way) }
+        ensures stage { IfOk result (λ s. s.stage ≡ stages.Giving) }
     {
         let tree = tree_of(alloc, plan, rows, id)?;
         if id.slice == 0 {
@@ -88,6 +89,7 @@ impl<'a> Slice<'a> {
     fn root(alloc: Global, tree: Tree<'a>) -> Slice<'a>
         ensures begins { (w : Worker) (part : Part) → Serves w part → LetsAllOut w → Runs part (state_of tree.entry) [] [] → Works w part (working result) fresh_course }
         ensures way { result.way ≡ ways.Lets [] }
+        ensures stage { result.stage ≡ stages.Giving }
     {
         Slice {
             stage: Stage::Giving,
@@ -100,6 +102,7 @@ impl<'a> Slice<'a> {
     fn sending(tree: Tree<'a>, out: MotionOut) -> Slice<'a>
         ensures begins { (w : Worker) (part : Part) → Serves w part → FacesOut w out → IsFresh out → Runs part (state_of tree.entry) [] [] → Works w part (working result) fresh_course }
         ensures way { result.way ≡ ways.Passes out None }
+        ensures stage { result.stage ≡ stages.Giving }
     {
         Slice {
             stage: Stage::Giving,

@@ -1,0 +1,9 @@
+pub mod Doings
+pub mod Events
+pub mod Sessions
+pub mod Turns
+pub mod Workers
+pub mod Worlds
+pub mod Steps
+pub mod Inside
+pub mod Laws
